@@ -1,5 +1,5 @@
 -- What is answered of whole texts.
-use Rattle.std.proofs.Common.{◌≡◌, ◌≢◌, ◌⊎◌, ◌++◌, ◌∙◌, ap, append_assoc, ℕ, Bool, true, false, List, [], Option, Some, None, Result, Ok, Err, flat_map, subst, sym, refl, inl, inr}
+use Rattle.std.proofs.Common.{◌≡◌, ◌≢◌, ◌⊎◌, ◌++◌, ◌∷◌, ◌∙◌, ap, append_assoc, ℕ, Bool, true, false, List, [], Option, Some, None, Result, Ok, Err, flat_map, subst, sym, refl, inl, inr}
 use Rattle.std.specs.Prelude.{IfOk, IfSome, IsTrue, ◌↔◌}
 use Rattle.std.specs.Bool.{then_some}
 use Rattle.snap_core.specs.declared.event.Event.{Event}
@@ -64,7 +64,7 @@ whole_answer asked left course gone (Err e) done rest status = tt
 
 -- the lines of all windows were written, and the sums
 abbrev pub TellsAfter : Course → Option (List ℕ) → Option (List ℕ) → Type 0
-TellsAfter course old new = (gone : List ℕ) (least most : ℕ) (texts : List (List (List ℕ))) (lines : List (List ℕ)) (events : List Event) → HasJudged course.follow course.answers gone least most texts lines events → TellsRest old new gone least events
+TellsAfter course old new = (gone : List ℕ) (least most : ℕ) (texts : List (List (List ℕ))) (lines : List (List ℕ)) (events : List Event) → HasJudged course.follow course.answers gone least most texts lines events → TellsRest old new gone least (texts ++ lines ∷ []) events
 
 written_by : (asked : FollowOptions) (left : Option (List (List ℕ))) (course : Course) (gone : List ℕ) (followed : Followed) (old mid new : Option (List ℕ)) → Appends old mid gone → IfSome left (IsDone course asked.until gone asked.least asked.most.events) →
     (IsTrue followed.has_rest ↔ (course.rest.items ≢ [])) → TellsAfter course mid new → IfSome left (λ all. AreWritten asked all followed old new)
@@ -73,7 +73,7 @@ written_by asked (Some all) course gone followed old mid new sent done rest tell
     let last = tells gone asked.least asked.most.events done.earlier done.last done.events done.judged in
     inl (record {
       events = done.events;
-      recording = recording_of course asked.until gone asked.least asked.most.events all followed.has_rest done rest;
+      recording = record { earlier = done.earlier; last = done.last; rest = course.rest.items; cut = done.cut; say = says_all course.follow done.judged.read done.begun; left_out = rest };
       told = last.told;
       windows = last.windows;
       wrote = subst (Appends old new) last.all (Appends-trans old mid new gone last.out sent last.sent);
@@ -109,9 +109,9 @@ unwritten_answer asked left stop (Ok followed) old new stops is = unwritten_by a
 unwritten_answer asked left stop (Err e) old new stops is = tt
 
 -- what was to be written, and the sums
-pub rest_told : (answers : Answers) (old new : Option (List ℕ)) (gone : List ℕ) (least : ℕ) (events : List Event) → HasToldAll answers gone least events →
-    ((told : List Told) → AreSums told answers.sums → Appends old new (answers.lines ++ sums_text told)) → TellsRest old new gone least events
-rest_told answers old new gone least events h wrote = record {
+pub rest_told : (answers : Answers) (old new : Option (List ℕ)) (gone : List ℕ) (least : ℕ) (texts : List (List (List ℕ))) (events : List Event) → HasToldAll answers gone least texts events →
+    ((told : List Told) → AreSums told answers.sums → Appends old new (answers.lines ++ sums_text told)) → TellsRest old new gone least texts events
+rest_told answers old new gone least texts events h wrote = record {
   told = h.told;
   windows = h.windows;
   out = answers.lines ++ sums_text h.told;

@@ -2,6 +2,7 @@ pub mod Answering
 pub mod Cutting
 pub mod Ending
 pub mod Opening
+pub mod Placing
 pub mod Unquoting
 pub mod Reading
 pub mod Refusing

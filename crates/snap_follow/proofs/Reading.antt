@@ -13,9 +13,12 @@ use Rattle.snap_text.specs.Fields.{Fields, row_event}
 use Rattle.snap_windows.specs.Taken.{HasTaken}
 use Rattle.snap_follow.specs.declared.follow.Follow.{Follow}
 use Rattle.snap_follow.specs.Followed.{AllSpell, EndsText, HasRead, IsNext, IsPlaceOf, ReadsLine, SaysSoFar, Spells, open_after}
+use Rattle.snap_follow.specs.Places.{IsPlaceOfEvent, IsSpanIn, record_count}
 use Rattle.snap_follow.specs.Spans.{HasOneMore, IsSpanOf, ends_view}
+use Rattle.snap_follow.specs.declared.follow.Place.{Place}
 use Rattle.snap_follow.specs.inside.Counts.{CountsOpen}
 use Rattle.snap_follow.proofs.Opening.{open_more}
+use Rattle.snap_follow.proofs.Placing.{place_behind, place_grown, place_now, span_grown, span_of_none, span_with, spells_length}
 
 rows_more : (lines : List (List ℕ)) (line : List ℕ) → flat_map rows_of (lines ++ line ∷ []) ≡ flat_map rows_of lines ++ rows_of line
 rows_more lines line = flat_map-append rows_of lines (line ∷ []) ∙ ap (λ z. flat_map rows_of lines ++ z) (append-nil (rows_of line))
@@ -47,9 +50,9 @@ same_open f g events same opened = rw (append-nil events, same) opened
 
 -- what was read, with another state of the same judge, one line more, and what all lines of the text then say
 with_line : (f g : Follow) (least most : ℕ) (texts : List (List (List ℕ))) (lines : List (List ℕ)) (line : List ℕ) (events more : List Event) (h : HasRead f least most texts lines events) →
-    KeepsRule f g → IsSpanOf g.span (h.since ++ more) → g.open_calls ≤ open_after (events ++ more) → HasTaken g.judge h.before (h.since ++ more) → SaysSoFar g (lines ++ line ∷ []) (h.here ++ more) → IsPlaceOf g.place texts (lines ++ line ∷ []) →
+    KeepsRule f g → IsSpanOf g.span (h.since ++ more) → IsSpanIn g.span (texts ++ (lines ++ line ∷ []) ∷ []) (length h.before) (length (h.since ++ more)) → g.open_calls ≤ open_after (events ++ more) → HasTaken g.judge h.before (h.since ++ more) → SaysSoFar g (lines ++ line ∷ []) (h.here ++ more) → IsPlaceOf g.place texts (lines ++ line ∷ []) →
     (n : HasRead g least most texts (lines ++ line ∷ []) (events ++ more)) × (n.before ≡ h.before) × (n.since ≡ h.since ++ more)
-with_line f g least most texts lines line events more h keeps span opened taken says place = (
+with_line f g least most texts lines line events more h keeps span place_of opened taken says place = (
   record {
     least_is = keeps.0 ∙ h.least_is;
     most_is = ap (λ z. z.events) keeps.1 ∙ h.most_is;
@@ -59,6 +62,7 @@ with_line f g least most texts lines line events more h keeps span opened taken 
     taken = taken;
     windows = ap (λ z. z ++ more) h.windows ∙ append_assoc h.before h.since more;
     span_is = span;
+    span_in = place_of;
     earlier = h.earlier;
     here = h.here ++ more;
     parts = ap (λ z. z ++ more) h.parts ∙ append_assoc h.earlier h.here more;
@@ -81,12 +85,19 @@ one_view : (b : Bool) → ◌≡◌ {A = ℕ} (cond b 1 0) (if b then 1 else 0)
 one_view true = refl
 one_view false = refl
 
-span_more : (f g : Follow) (since : List Event) (x : Event) → HasOneMore f.span x g.span → IsSpanOf f.span since → IsSpanOf g.span (since ++ x ∷ [])
-span_more f g since x next h = record {
+span_more : (f g : Follow) (since : List Event) (x : Event) (p : Place) → HasOneMore f.span x p g.span → IsSpanOf f.span since → IsSpanOf g.span (since ++ x ∷ [])
+span_more f g since x p next h = record {
   events_are = count_more f.span.events g.span.events (length since) (length (since ++ x ∷ [])) 1 next.0 h.events_are (length-append since (x ∷ []));
   views_are = count_more f.span.views g.span.views (count_by ends_view since) (count_by ends_view (since ++ x ∷ [])) (if ends_view x then 1 else 0) next.1 h.views_are
       (sum_by_push (λ e. cond (ends_view e) 1 0) since x ∙ ap (λ z. count_by ends_view since + z) (one_view (ends_view x)));
 }
+
+same_places : (f g : Follow) (texts : List (List (List ℕ))) (lines : List (List ℕ)) (line : List ℕ) (before since : List Event) → g.span ≡ f.span → IsSpanIn f.span (texts ++ lines ∷ []) (length before) (length since) →
+    IsSpanIn g.span (texts ++ (lines ++ line ∷ []) ∷ []) (length before) (length (since ++ []))
+same_places f g texts lines line before since same h =
+    subst (λ z. IsSpanIn g.span (texts ++ (lines ++ line ∷ []) ∷ []) (length before) (length z)) (sym (append-nil since))
+    (subst (λ z. IsSpanIn z (texts ++ (lines ++ line ∷ []) ∷ []) (length before) (length since)) (sym same)
+    (span_grown f.span (texts ++ lines ∷ []) (texts ++ (lines ++ line ∷ []) ∷ []) (length before) (length since) (place_grown texts lines (line ∷ [])) h))
 
 -- the same judge has taken no event more
 same_judge : (f g : Follow) (before since : List Event) → g.judge ≡ f.judge → HasTaken f.judge before since → HasTaken g.judge before (since ++ [])
@@ -94,7 +105,7 @@ same_judge f g before since same taken = subst (λ z. HasTaken z before (since +
 
 -- a line without a record
 pub nothing_more : (f g : Follow) (line : List ℕ) → g.judge ≡ f.judge → g.span ≡ f.span → g.least ≡ f.least → g.open_calls ≡ f.open_calls → g.headed ≡ f.headed → g.place ≡ f.place → rows_of line ≡ [] → ReadsLine f g line
-nothing_more f g line same span_same least_same calls_same headed place_same none least most texts lines events h = let n = with_line f g least most texts lines line events [] h (least_same, ap (λ z. z.most) same) (same_span f g h.since span_same h.span_is) (same_open f g events calls_same h.opened) (same_judge f g h.before h.since same h.taken) (go h.lines_say) (place_stays f g texts lines line place_same none h.place_is) in ([], omega arith, n.0, n.1, n.2)
+nothing_more f g line same span_same least_same calls_same headed place_same none least most texts lines events h = let n = with_line f g least most texts lines line events [] h (least_same, ap (λ z. z.most) same) (same_span f g h.since span_same h.span_is) (same_places f g texts lines line h.before h.since span_same h.span_in) (same_open f g events calls_same h.opened) (same_judge f g h.before h.since same h.taken) (go h.lines_say) (place_stays f g texts lines line place_same none h.place_is) in ([], omega arith, n.0, n.1, n.2)
   where
     rows : flat_map rows_of (lines ++ line ∷ []) ≡ flat_map rows_of lines
     rows = rows_more lines line ∙ ap (λ z. flat_map rows_of lines ++ z) none ∙ append-nil (flat_map rows_of lines)
@@ -105,7 +116,7 @@ nothing_more f g line same span_same least_same calls_same headed place_same non
 
 -- the header
 pub header_read : (f g : Follow) (line : List ℕ) (first : Fields) → f.headed ≡ false → g.headed ≡ true → g.judge ≡ f.judge → g.span ≡ f.span → g.least ≡ f.least → g.open_calls ≡ f.open_calls → IsNext f.place g.place → rows_of line ≡ first ∷ [] → is_header_row first ≡ true → ReadsLine f g line
-header_read f g line first old new same span_same least_same calls_same next rows header least most texts lines events h = let n = with_line f g least most texts lines line events [] h (least_same, ap (λ z. z.most) same) (same_span f g h.since span_same h.span_is) (same_open f g events calls_same h.opened) (same_judge f g h.before h.since same h.taken) (go h.lines_say) (place_next f g texts lines line first next rows h.place_is) in ([], omega arith, n.0, n.1, n.2)
+header_read f g line first old new same span_same least_same calls_same next rows header least most texts lines events h = let n = with_line f g least most texts lines line events [] h (least_same, ap (λ z. z.most) same) (same_span f g h.since span_same h.span_is) (same_places f g texts lines line h.before h.since span_same h.span_in) (same_open f g events calls_same h.opened) (same_judge f g h.before h.since same h.taken) (go h.lines_say) (place_next f g texts lines line first next rows h.place_is) in ([], omega arith, n.0, n.1, n.2)
   where
     go : SaysSoFar f lines h.here → SaysSoFar g (lines ++ line ∷ []) (h.here ++ [])
     go (inl p) = inr (
@@ -126,9 +137,31 @@ read_history f h = subst IsHistory (sym h.windows) h.taken.history
 
 -- an event
 pub event_read : (f g : Follow) (line : List ℕ) (row : Fields) (x : Event) → f.headed ≡ true → g.headed ≡ f.headed → rows_of line ≡ row ∷ [] → row_event row ≡ Ok x →
-    KeepsRule f g → IsNext f.place g.place → CountsOpen f.open_calls x g.open_calls → HasOneMore f.span x g.span → ((before since : List Event) → HasTaken f.judge before since → HasTaken g.judge before (since ++ x ∷ [])) → ReadsLine f g line
-event_read f g line row x old headed rows event keeps next counts one taken least most texts lines events h = let n = with_line f g least most texts lines line events (x ∷ []) h keeps (span_more f g h.since x one h.span_is) (open_more events x f.open_calls g.open_calls (read_history f h) h.opened counts) (taken h.before h.since h.taken) (go h.lines_say) (place_next f g texts lines line row next rows h.place_is) in (x ∷ [], omega arith, n.0, n.1, n.2)
+    KeepsRule f g → IsNext f.place g.place → CountsOpen f.open_calls x g.open_calls → HasOneMore f.span x g.place g.span → ((before since : List Event) → HasTaken f.judge before since → HasTaken g.judge before (since ++ x ∷ [])) → ReadsLine f g line
+event_read f g line row x old headed rows event keeps next counts one taken least most texts lines events h = let n = with_line f g least most texts lines line events (x ∷ []) h keeps (span_more f g h.since x g.place one h.span_is) places (open_more events x f.open_calls g.open_calls (read_history f h) h.opened counts) (taken h.before h.since h.taken) (go h.lines_say) (place_next f g texts lines line row next rows h.place_is) in (x ∷ [], omega arith, n.0, n.1, n.2)
   where
+    next_place : IsPlaceOf g.place texts (lines ++ line ∷ [])
+    next_place = place_next f g texts lines line row next rows h.place_is
+
+    count : SaysSoFar f lines h.here → record_count (lines ++ line ∷ []) ≡ length h.here + 2
+    count (inl p) = absurd (false≢true (sym p.0 ∙ old))
+    count (inr q) =
+        let was = spells_length (flat_map rows_of lines) h.here q.1 in
+        let more = ap length (rows_more lines line ∙ ap (λ z. flat_map rows_of lines ++ z) rows) ∙ length-append (flat_map rows_of lines) (row ∷ []) in
+        omega (arith, was, more)
+
+    all_is : length h.before + length h.since ≡ length h.earlier + length h.here
+    all_is = sym (length-append h.before h.since) ∙ ap length (sym h.windows ∙ h.parts) ∙ length-append h.earlier h.here
+
+    longer : length (h.since ++ x ∷ []) ≡ length h.since + 1
+    longer = length-append h.since (x ∷ [])
+
+    now : IsPlaceOfEvent (texts ++ (lines ++ line ∷ []) ∷ []) (length h.before + length (h.since ++ x ∷ [])) g.place
+    now = place_now texts (lines ++ line ∷ []) h.earlier h.here (length h.before + length (h.since ++ x ∷ [])) g.place h.texts_say (count h.lines_say) (omega (arith, all_is, longer)) next_place
+
+    places : IsSpanIn g.span (texts ++ (lines ++ line ∷ []) ∷ []) (length h.before) (length (h.since ++ x ∷ []))
+    places = span_with f.span g.span x g.place (texts ++ lines ∷ []) (texts ++ (lines ++ line ∷ []) ∷ []) (length h.before) h.since (h.since ++ x ∷ []) one (place_grown texts lines (line ∷ [])) h.span_is.events_are longer now h.span_in
+
     go : SaysSoFar f lines h.here → SaysSoFar g (lines ++ line ∷ []) (h.here ++ x ∷ [])
     go (inl p) = absurd (false≢true (sym p.0 ∙ old))
     go (inr q) = inr (
@@ -160,6 +193,8 @@ text_ended f g old new same span_same least_same calls_same next none least most
     taken = subst (λ z. HasTaken z h.before h.since) (sym same) h.taken;
     windows = h.windows;
     span_is = subst (λ z. IsSpanOf z h.since) (sym span_same) h.span_is;
+    span_in = subst (λ z. IsSpanIn z ((texts ++ lines ∷ []) ++ [] ∷ []) (length h.before) (length h.since)) (sym span_same)
+        (span_grown f.span (texts ++ lines ∷ []) ((texts ++ lines ∷ []) ++ [] ∷ []) (length h.before) (length h.since) (place_behind (texts ++ lines ∷ []) ([] ∷ [])) h.span_in);
     earlier = h.earlier ++ h.here;
     here = [];
     parts = h.parts ∙ sym (append-nil (h.earlier ++ h.here));
@@ -192,6 +227,7 @@ window_ended f g headed place_same span keeps calls_same ends least most texts l
     taken = ends h.before h.since h.taken;
     windows = h.windows ∙ sym (append-nil (h.before ++ h.since));
     span_is = span;
+    span_in = span_of_none g.span (texts ++ lines ∷ []) (length (h.before ++ h.since));
     earlier = h.earlier;
     here = h.here;
     parts = h.parts;

@@ -37,12 +37,12 @@ answered_still a b gone told same h = record {
 }
 
 -- what was told with some answers is told with others that have the same
-told_by : (a b : Answers) (gone all : List ℕ) (least : ℕ) (before : List Event) → ((told : List Told) → HasAnswered a gone told → HasAnswered b all told) → HasTold a gone least before → HasTold b all least before
-told_by a b gone all least before f h = record { told = h.told; answered = f h.told h.answered; all = h.all; each = h.each; ended = h.ended }
+told_by : (a b : Answers) (gone all : List ℕ) (least : ℕ) (texts : List (List (List ℕ))) (before : List Event) → ((told : List Told) → HasAnswered a gone told → HasAnswered b all told) → HasTold a gone least texts before → HasTold b all least texts before
+told_by a b gone all least texts before f h = record { told = h.told; answered = f h.told h.answered; all = h.all; each = h.each; ended = h.ended }
 
 judged_by : (f : Follow) (a b : Answers) (gone all : List ℕ) {least most : ℕ} {texts : List (List (List ℕ))} {lines : List (List ℕ)} {events : List Event} → ((told : List Told) → HasAnswered a gone told → HasAnswered b all told) →
     HasJudged f a gone least most texts lines events → HasJudged f b all least most texts lines events
-judged_by f a b gone all {least} {most} {texts} {lines} {events} keeps h = record { read = h.read; in_time = h.in_time; first = h.first; told = told_by a b gone all least h.read.before keeps h.told }
+judged_by f a b gone all {least} {most} {texts} {lines} {events} keeps h = record { read = h.read; in_time = h.in_time; first = h.first; told = told_by a b gone all least (texts ++ lines ∷ []) h.read.before keeps h.told }
 
 judged_still : (f : Follow) (a b : Answers) {gone : List ℕ} {least most : ℕ} {texts : List (List (List ℕ))} {lines : List (List ℕ)} {events : List Event} → IsSameAnswer a b → HasJudged f a gone least most texts lines events → HasJudged f b gone least most texts lines events
 judged_still f a b {gone} {least} {most} {texts} {lines} {events} same h = judged_by f a b gone gone (λ told. answered_still a b gone told same) h

@@ -16,7 +16,8 @@ use Rattle.snap_follow.specs.Followed.{EndsText, HasNoRecord, HasRead, StopsAt}
 use Rattle.snap_follow.specs.Windows.{EndsFirst}
 use Rattle.snap_follow.specs.inside.Courses.{BeginsWithEnd, EndsBytes, HasFollowed, HasJudged, HasNothing, IsTooLong, StopsIn, TakesBytes, TakesLast, TakesLine}
 use Rattle.snap_follow.specs.inside.Sums.{HasAnswered, HasTold}
-use Rattle.snap_follow.proofs.Telling.{none_first, none_told}
+use Rattle.snap_follow.proofs.Placing.{place_behind}
+use Rattle.snap_follow.proofs.Telling.{none_first, none_told, told_grown}
 
 -- nothing
 pub takes_nothing : (c : Course) → TakesBytes c c []
@@ -175,7 +176,8 @@ text_done c d e last ends none kept gone least most texts bytes events h =
           read = next.0;
           in_time = λ quiet. subst (λ z. (length z < least) ⊎ (z ≡ [])) (sym next.2) (all.3.in_time quiet);
           first = subst (λ z. EndsFirst least z next.0.since) (sym next.1) (subst (EndsFirst least all.3.read.before) (sym next.2) all.3.first);
-          told = subst (λ z. HasTold z gone least next.0.before) (sym kept) (subst (HasTold d.answers gone least) (sym next.1) all.3.told);
+          told = subst (λ z. HasTold z gone least ((texts ++ all.0 ∷ []) ++ [] ∷ []) next.0.before) (sym kept) (subst (HasTold d.answers gone least ((texts ++ all.0 ∷ []) ++ [] ∷ [])) (sym next.1)
+              (told_grown d.answers gone least (texts ++ all.0 ∷ []) ((texts ++ all.0 ∷ []) ++ [] ∷ []) all.3.read.before (place_behind (texts ++ all.0 ∷ []) ([] ∷ [])) all.3.told));
         };
       },
     )
@@ -197,7 +199,7 @@ none_followed c least most none read answered = record {
     read = read;
     in_time = λ quiet. inr (nothing_since read.before read.since read.windows);
     first = subst (EndsFirst least read.before) (sym (nothing_since read.before read.since read.windows)) (none_first least read.before);
-    told = subst (HasTold c.answers [] least) (sym (nothing_before read.before read.since read.windows)) (none_told c.answers least answered);
+    told = subst (HasTold c.answers [] least ([] ∷ [])) (sym (nothing_before read.before read.since read.windows)) (none_told c.answers least ([] ∷ []) answered);
   };
 }
 

@@ -9,7 +9,9 @@ use Rattle.snap_follow.specs.declared.course.Course.{Course}
 use Rattle.snap_follow.specs.declared.follow.Follow.{Follow}
 use Rattle.snap_follow.specs.declared.follow.Window.{Window}
 use Rattle.snap_follow.specs.Followed.{HasRead, IsInTime, ReadsLine}
+use Rattle.snap_follow.specs.Places.{IsSpanIn}
 use Rattle.snap_follow.specs.Spans.{IsSpanOf, stop}
+use Rattle.snap_follow.proofs.Placing.{Grows, place_grown, snoc_cases, span_grown}
 use Rattle.snap_follow.specs.Windows.{EndsFirst, HasEnded, IsToldAfter, Told, events_of}
 use Rattle.snap_follow.specs.inside.Courses.{HasJudged, TakesLine}
 use Rattle.snap_follow.specs.inside.Sums.{AddsLast, AddsWindow, HasAnswered, HasTold, HasToldAll}
@@ -54,23 +56,6 @@ first_more least events before since (x ∷ y ∷ more) small is in_time first =
 first_more least events before since (x ∷ []) small is in_time first = first_one least events before since x is in_time first
 
 -- of windows and one more, each is that one or one of the others
-snoc_cases : (told : List Told) (t : Told) (front : List Told) (x : Told) (behind : List Told) → told ++ t ∷ [] ≡ front ++ x ∷ behind →
-    ((behind ≡ []) × (front ≡ told) × (x ≡ t)) ⊎ ((b : List Told) × (told ≡ front ++ x ∷ b))
-snoc_cases [] t [] x behind is = inl (cc, refl, cc)
-snoc_cases [] t (a ∷ front) x behind is = absurd (omega (arith, ap length is, length-append front (x ∷ behind)))
-snoc_cases (y ∷ told) t [] x behind is = inr (told, cc)
-snoc_cases (y ∷ told) t (a ∷ front) x behind is = go (snoc_cases told t front x behind tails)
-  where
-    tails : told ++ t ∷ [] ≡ front ++ x ∷ behind
-    tails = cc
-
-    heads : y ≡ a
-    heads = cc
-
-    go : ((behind ≡ []) × (front ≡ told) × (x ≡ t)) ⊎ ((b : List Told) × (told ≡ front ++ x ∷ b)) → ((behind ≡ []) × (a ∷ front ≡ y ∷ told) × (x ≡ t)) ⊎ ((b : List Told) × (y ∷ told ≡ (a ∷ front) ++ x ∷ b))
-    go (inl p) = inl (p.0, ap (λ z. a ∷ z) p.1 ∙ ap (λ z. z ∷ told) (sym heads), p.2)
-    go (inr q) = inr (q.0, ap (λ z. y ∷ z) q.1 ∙ ap (λ z. z ∷ (front ++ x ∷ q.0)) heads)
-
 each_more : (P : List Told → Told → Type 0) (told : List Told) (t : Told) → ((front behind : List Told) (x : Told) → told ≡ front ++ x ∷ behind → P front x) → P told t →
     (front behind : List Told) (x : Told) → told ++ t ∷ [] ≡ front ++ x ∷ behind → P front x
 each_more P told t each one front behind x is = go (snoc_cases told t front x behind is)
@@ -91,34 +76,54 @@ events_more : (told : List Told) (t : Told) (before since : List Event) → even
 events_more told t before since b s = flat_map-append (λ x. x.events) told (t ∷ []) ∙ ap (λ z. events_of told ++ z) (append-nil t.events ∙ s) ∙ ap (λ z. z ++ since) b
 
 -- what is so of a window that was found is so of it where it was written
-told_after : (least : ℕ) (told : List Told) (t : Told) (before since : List Event) (window : Window) → t.window ≡ window → t.events ≡ since → t.number ≡ stop (length told + 1) → events_of told ≡ before →
-    IsSpanOf window.span since → IsVerdict window.verdict before since → EndsFirst least before since → (0 < least → since ≢ []) → IsToldAfter least told t
-told_after least told t before since window w e n b span verdict first some = record {
+told_after : (least : ℕ) (texts : List (List (List ℕ))) (told : List Told) (t : Told) (before since : List Event) (window : Window) → t.window ≡ window → t.events ≡ since → t.number ≡ stop (length told + 1) → events_of told ≡ before →
+    IsSpanOf window.span since → IsSpanIn window.span texts (length before) (length since) → IsVerdict window.verdict before since → EndsFirst least before since → (0 < least → since ≢ []) → IsToldAfter least texts told t
+told_after least texts told t before since window w e n b span places verdict first some = record {
   number = n;
   span = subst (λ z. IsSpanOf z.span t.events) (sym w) (subst (IsSpanOf window.span) (sym e) span);
+  places = subst (λ z. IsSpanIn z.span texts (length (events_of told)) (length t.events)) (sym w) (subst (λ z. IsSpanIn window.span texts (length z) (length t.events)) (sym b) (subst (λ z. IsSpanIn window.span texts (length before) (length z)) (sym e) places));
   verdict = subst (λ z. IsVerdict z.verdict (events_of told) t.events) (sym w) (subst (λ z. IsVerdict window.verdict z t.events) (sym b) (subst (IsVerdict window.verdict before) (sym e) verdict));
   first = subst (λ z. EndsFirst least z t.events) (sym b) (subst (EndsFirst least before) (sym e) first);
   some = λ lt none. some lt (sym e ∙ none);
 }
 
 -- a window that has ended was answered
-window_told : (a b : Answers) (gone : List ℕ) (least : ℕ) (before since : List Event) (window : Window) → HasTold a gone least before → AddsWindow a b window →
-    IsSpanOf window.span since → IsVerdict window.verdict before since → EndsFirst least before since → HasEnded least before since → HasTold b gone least (before ++ since)
-window_told a b gone least before since window h adds span verdict first ended =
+window_told : (a b : Answers) (gone : List ℕ) (least : ℕ) (texts : List (List (List ℕ))) (before since : List Event) (window : Window) → HasTold a gone least texts before → AddsWindow a b window →
+    IsSpanOf window.span since → IsSpanIn window.span texts (length before) (length since) → IsVerdict window.verdict before since → EndsFirst least before since → HasEnded least before since → HasTold b gone least texts (before ++ since)
+window_told a b gone least texts before since window h adds span places verdict first ended =
     let next = adds gone h.told since span h.answered in
     record {
       told = h.told ++ next.0 ∷ [];
       answered = next.4;
       all = events_more h.told next.0 before since h.all next.2;
-      each = each_more (λ front x. IsToldAfter least front x) h.told next.0 h.each
-          (told_after least h.told next.0 before since window next.1 next.2 next.3 h.all span verdict first (λ some none. omega (arith, ended.0, some, ap length none)));
+      each = each_more (λ front x. IsToldAfter least texts front x) h.told next.0 h.each
+          (told_after least texts h.told next.0 before since window next.1 next.2 next.3 h.all span places verdict first (λ some none. omega (arith, ended.0, some, ap length none)));
       ended = each_more (λ front x. HasEnded least (events_of front) x.events) h.told next.0 h.ended
           (subst (λ z. HasEnded least z next.0.events) (sym h.all) (subst (HasEnded least before) (sym next.2) ended));
     }
 
+-- what was told stays so once the texts have grown
+pub told_grown : (a : Answers) (gone : List ℕ) (least : ℕ) (all new : List (List (List ℕ))) (before : List Event) → Grows all new → HasTold a gone least all before → HasTold a gone least new before
+told_grown a gone least all new before grows h = record {
+  told = h.told;
+  answered = h.answered;
+  all = h.all;
+  each = λ front behind t is.
+      let was = h.each front behind t is in
+      record {
+        number = was.number;
+        span = was.span;
+        places = span_grown t.window.span all new (length (events_of front)) (length t.events) grows was.places;
+        verdict = was.verdict;
+        first = was.first;
+        some = was.some;
+      };
+  ended = h.ended;
+}
+
 -- no window was answered so far
-pub none_told : (a : Answers) (least : ℕ) → HasAnswered a [] [] → HasTold a [] least []
-none_told a least answered = record {
+pub none_told : (a : Answers) (least : ℕ) (texts : List (List (List ℕ))) → HasAnswered a [] [] → HasTold a [] least texts []
+none_told a least texts answered = record {
   told = [];
   answered = answered;
   all = refl;
@@ -136,6 +141,8 @@ cut_then c d g line window reads ends verdict enough span adds gone least most t
     let read = reads least most texts lines events h.read in
     let r = read.2 in
     let next = ends least most texts (lines ++ line ∷ []) (events ++ read.0) r in
+    let all : List (List (List ℕ)) = texts ++ (lines ++ line ∷ []) ∷ [] in
+    let told = told_grown c.answers gone least (texts ++ lines ∷ []) all h.read.before (place_grown texts lines (line ∷ [])) h.told in
     let first : EndsFirst least r.before r.since =
     subst (λ z. EndsFirst least z r.since) (sym read.3) (subst (EndsFirst least h.read.before) (sym read.4) (first_more least events h.read.before h.read.since read.0 read.1 h.read.windows h.in_time h.first)) in (
       read.0,
@@ -143,9 +150,9 @@ cut_then c d g line window reads ends verdict enough span adds gone least most t
         read = next.0;
         in_time = λ quiet. inr next.2;
         first = subst (EndsFirst least next.0.before) (sym next.2) (none_first least next.0.before);
-        told = subst (HasTold d.answers gone least) (sym next.1)
-            (window_told c.answers d.answers gone least r.before r.since window (subst (HasTold c.answers gone least) (sym read.3) h.told) adds
-            (subst (λ z. IsSpanOf z r.since) (sym span) r.span_is)
+        told = subst (HasTold d.answers gone least all) (sym next.1)
+            (window_told c.answers d.answers gone least all r.before r.since window (subst (HasTold c.answers gone least all) (sym read.3) told) adds
+            (subst (λ z. IsSpanOf z r.since) (sym span) r.span_is) (subst (λ z. IsSpanIn z all (length r.before) (length r.since)) (sym span) r.span_in)
             (verdict least most texts (lines ++ line ∷ []) (events ++ read.0) r) first
             (enough least most texts (lines ++ line ∷ []) (events ++ read.0) r, subst IsQuiet next.1 next.0.taken.quiet));
       },
@@ -164,7 +171,8 @@ none_then c d g line reads same kept short gone least most texts lines events h 
         read = r;
         in_time = λ quiet. inl (short least most texts (lines ++ line ∷ []) (events ++ read.0) r quiet);
         first = first;
-        told = subst (HasTold c.answers gone least) (sym read.3) h.told;
+        told = subst (HasTold c.answers gone least (texts ++ (lines ++ line ∷ []) ∷ [])) (sym read.3)
+            (told_grown c.answers gone least (texts ++ lines ∷ []) (texts ++ (lines ++ line ∷ []) ∷ []) h.read.before (place_grown texts lines (line ∷ [])) h.told);
       })),
     )
 
@@ -174,13 +182,16 @@ no_last since n is none = no_events since (omega (arith, is, none))
 
 pub all_told : (f : Follow) (a b : Answers) (window : Window) → window.span ≡ f.span →
     ((least most : ℕ) (texts : List (List (List ℕ))) (lines : List (List ℕ)) (events : List Event) (h : HasRead f least most texts lines events) → IsVerdict window.verdict h.before h.since) →
-    AddsLast a b window → (gone : List ℕ) (least most : ℕ) (texts : List (List (List ℕ))) (lines : List (List ℕ)) (events : List Event) → HasJudged f a gone least most texts lines events → HasToldAll b gone least events
+    AddsLast a b window → (gone : List ℕ) (least most : ℕ) (texts : List (List (List ℕ))) (lines : List (List ℕ)) (events : List Event) → HasJudged f a gone least most texts lines events → HasToldAll b gone least (texts ++ lines ∷ []) events
 all_told f a b window span verdict adds gone least most texts lines events h = go adds
   where
     spans : IsSpanOf window.span h.read.since
     spans = subst (λ z. IsSpanOf z h.read.since) (sym span) h.read.span_is
 
-    go : AddsLast a b window → HasToldAll b gone least events
+    places : IsSpanIn window.span (texts ++ lines ∷ []) (length h.read.before) (length h.read.since)
+    places = subst (λ z. IsSpanIn z (texts ++ lines ∷ []) (length h.read.before) (length h.read.since)) (sym span) h.read.span_in
+
+    go : AddsLast a b window → HasToldAll b gone least (texts ++ lines ∷ []) events
     go (inl (none, same)) =
         let since : h.read.since ≡ [] = no_last h.read.since window.span.events spans.events_are none in
         record {
@@ -199,8 +210,8 @@ all_told f a b window span verdict adds gone least most texts lines events h = g
           answered = next.4;
           windows = record {
             all = events_more h.told.told next.0 h.read.before h.read.since h.told.all next.2 ∙ sym h.read.windows;
-            each = each_more (λ front x. IsToldAfter least front x) h.told.told next.0 h.told.each
-                (told_after least h.told.told next.0 h.read.before h.read.since window next.1 next.2 next.3 h.told.all spans (verdict least most texts lines events h.read) h.first
+            each = each_more (λ front x. IsToldAfter least (texts ++ lines ∷ []) front x) h.told.told next.0 h.told.each
+                (told_after least (texts ++ lines ∷ []) h.told.told next.0 h.read.before h.read.since window next.1 next.2 next.3 h.told.all spans places (verdict least most texts lines events h.read) h.first
                 (λ lt none. omega (arith, some, spans.events_are, ap length none)));
             ended = each_but_last (λ front x. HasEnded least (events_of front) x.events) h.told.told next.0 h.told.ended;
           };

@@ -78,7 +78,7 @@ pub record HasWritten (asked : FollowOptions) (texts : List (List ℕ)) (has_res
   pub events : List Event
   pub recording : IsRecording asked.until texts has_rest events
   pub told : List Told
-  pub windows : AreWindowsOf asked.least events told
+  pub windows : AreWindowsOf asked.least (recording.earlier ++ recording.last ∷ []) events told
   pub wrote : Appends old new (flat_map line_of told ++ sums_text told)
 
 -- texts were followed, all of them were there, and their windows were written, or they can't be followed

@@ -8,6 +8,7 @@ use Rattle.snap_report.specs.Lines.{entry_word}
 use Rattle.snap_theory.specs.Windows.{IsQuiet}
 use Rattle.snap_windows.specs.Verdicts.{IsVerdict}
 use Rattle.snap_windows.specs.declared.judge.Verdict.{Verdict}
+use Rattle.snap_follow.specs.Places.{IsSpanIn}
 use Rattle.snap_follow.specs.Spans.{IsSpanOf, ends_view, stop}
 use Rattle.snap_follow.specs.declared.follow.Place.{Place}
 use Rattle.snap_follow.specs.declared.follow.Window.{Window}
@@ -31,18 +32,20 @@ EndsFirst least before window = (front rest : List Event) → window ≡ front +
 abbrev pub HasEnded : ℕ → List Event → List Event → Type 0
 HasEnded least before window = (least ≤ length window) × IsQuiet (before ++ window)
 
--- a window after others has their number and one more, the counts of its own events, and the verdict on them from what the others left
-pub record IsToldAfter (least : ℕ) (front : List Told) (t : Told) : Type 0 where
+-- a window after others has their number and one more. It has the counts of its own events, the places of the first and the last of
+-- them, and the verdict on them from what the others left
+pub record IsToldAfter (least : ℕ) (texts : List (List (List ℕ))) (front : List Told) (t : Told) : Type 0 where
   pub number : t.number ≡ stop (length front + 1)
   pub span : IsSpanOf t.window.span t.events
+  pub places : IsSpanIn t.window.span texts (length (events_of front)) (length t.events)
   pub verdict : IsVerdict t.window.verdict (events_of front) t.events
   pub first : EndsFirst least (events_of front) t.events
   pub some : 0 < least → t.events ≢ []
 
--- windows are those of these events: they have all of them, and each but the last has ended
-pub record AreWindowsOf (least : ℕ) (events : List Event) (told : List Told) : Type 0 where
+-- windows are those of these events, which the texts say: they have all of them, and each but the last has ended
+pub record AreWindowsOf (least : ℕ) (texts : List (List (List ℕ))) (events : List Event) (told : List Told) : Type 0 where
   pub all : events_of told ≡ events
-  pub each : (front behind : List Told) (t : Told) → told ≡ front ++ t ∷ behind → IsToldAfter least front t
+  pub each : (front behind : List Told) (t : Told) → told ≡ front ++ t ∷ behind → IsToldAfter least texts front t
   pub ended : (front behind : List Told) (t : Told) → told ≡ front ++ t ∷ behind → behind ≢ [] → HasEnded least (events_of front) t.events
 
 -- The line of a window.

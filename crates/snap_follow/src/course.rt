@@ -1,5 +1,5 @@
 //! The course of a recording that is followed: its bytes are cut into lines, and its windows are answered.
-ghost use Rattle.std.specs.Prelude.{◌≡◌, ◌≢◌, ◌↔◌, ◌⊎◌, ◌++◌, [], ℕ, List, false, true, IfOk, IsTrue, OnOk};
+ghost use Rattle.std.specs.Prelude.{◌≡◌, ◌≢◌, ◌↔◌, ◌⊎◌, ◌++◌, ◌∷◌, [], ℕ, List, false, true, IfOk, IsTrue, OnOk};
 ghost use Rattle.snap_core.specs.declared.event.Event.{Event};
 ghost use Rattle.snap_follow.specs.Followed.{HasRead, IsStatusOf, StopsAt};
 ghost use Rattle.snap_follow.specs.inside.Courses.{EndsBytes, HasFollowed, HasJudged, HasNoneSoFar, IsBegun, IsTooLong, StopsIn, StopsLast, TakesBytes, TakesLast, TakesLine};
@@ -172,7 +172,7 @@ impl Course {
     /// Ends the recording, in which calls may be open. It answers the exit status of the whole.
     pub(crate) fn finish(self, alloc: Global) -> Result<(u8, Answers), AllocError>
         ensures status { IfOk result (λ x. (least most : ℕ) (texts : List (List (List ℕ))) (lines : List (List ℕ)) (events : List Event) → HasRead self.follow least most texts lines events → IsStatusOf events x.0) }
-        ensures told { IfOk result (λ x. (gone : List ℕ) (least most : ℕ) (texts : List (List (List ℕ))) (lines : List (List ℕ)) (events : List Event) → HasJudged self.follow self.answers gone least most texts lines events → HasToldAll x.1 gone least events) }
+        ensures told { IfOk result (λ x. (gone : List ℕ) (least most : ℕ) (texts : List (List (List ℕ))) (lines : List (List ℕ)) (events : List Event) → HasJudged self.follow self.answers gone least most texts lines events → HasToldAll x.1 gone least (texts ++ lines ∷ []) events) }
     {
         let Course {
             follow,

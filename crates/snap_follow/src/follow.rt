@@ -1,5 +1,5 @@
 //! A recording that is followed, line by line.
-ghost use Rattle.std.specs.Prelude.{◌≡◌, ◌≤◌, ◌<◌, ◌++◌, ◌∷◌, [], ◌↔◌, ℕ, List, IsTrue, IfErr, IfNone, IfOk, IfSome, OnErr, OnOk, false, length};
+ghost use Rattle.std.specs.Prelude.{◌≡◌, ◌≢◌, ◌≤◌, ◌<◌, ◌++◌, ◌∷◌, [], ◌↔◌, ℕ, List, IsTrue, IfErr, IfNone, IfOk, IfSome, OnErr, OnOk, false, length};
 ghost use Rattle.snap_core.specs.declared.event.Event.{Event};
 ghost use Rattle.snap_core.specs.Calls.{calls_of};
 ghost use Rattle.snap_core.specs.Events.{IsHistory};
@@ -110,14 +110,21 @@ impl Span {
         }
     }
 
+    // The place of its first event, once one more has come at this place.
+    fn first_with(self, place: Place) -> Place
+        ensures { (self.events ≡ 0 → result ≡ place) × (self.events ≢ 0 → result ≡ self.first) }
+    {
+        if self.events == 0 { place } else { self.first }
+    }
+
     // The window with one event more, which is at this place and misses this entry.
     fn with(self, event: &Event, place: Place, missed: Option<Entry>) -> Span
-        ensures { HasOneMore self event.now result }
+        ensures { HasOneMore self event.now place result }
     {
         Span {
             events: self.events.saturating_add(1),
             views: self.views.saturating_add(u64::from(ends_view(event))),
-            first: if self.events == 0 { place } else { self.first },
+            first: self.first_with(place),
             last: place,
             missed: first_missed(self.missed, missed, place),
         }
@@ -229,7 +236,7 @@ impl Follow {
         ensures place { self.new.place ≡ self.old.place }
         ensures rule { (self.new.least ≡ self.old.least) × (self.new.judge.most ≡ self.old.judge.most) }
         ensures counted { OnOk result (CountsOpen self.old.open_calls event.now self.new.open_calls) }
-        ensures span { OnOk result (HasOneMore self.old.span event.now self.new.span) }
+        ensures span { OnOk result (HasOneMore self.old.span event.now self.old.place self.new.span) }
         ensures refused { IfErr result (λ why. (before since : List Event) → HasTaken self.old.judge before since → IsHistory (before ++ (since ++ event.now ∷ [])) → IsLack self.old.judge since why) }
     {
         let missed = match self.judge.take(alloc, event) {

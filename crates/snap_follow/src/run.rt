@@ -1,5 +1,5 @@
 //! The run that follows a recording, from its texts to a writer.
-ghost use Rattle.std.specs.Prelude.{◌≡◌, ◌≢◌, ◌↔◌, ◌++◌, ℕ, List, [], IsTrue, IsSome, Some, None, IfOk, IfSome, OnOk};
+ghost use Rattle.std.specs.Prelude.{◌≡◌, ◌≢◌, ◌↔◌, ◌++◌, ◌∷◌, ℕ, List, [], IsTrue, IsSome, Some, None, IfOk, IfSome, OnOk};
 ghost use Rattle.std.specs.Io.KnownBytes.{Appends};
 ghost use Rattle.snap_core.specs.Counting.{inner_of};
 ghost use Rattle.snap_core.specs.declared.counted.Counted.{Counted};
@@ -108,7 +108,7 @@ fn end_whole<W: Write>(
     ensures rest { IfOk result (λ followed. IsTrue followed.has_rest ↔ (course.rest.items ≢ [])) }
     ensures code { IfOk result (λ followed. IfSome followed.code (λ code. (least most : ℕ) (texts : List (List (List ℕ))) (lines : List (List ℕ)) (events : List Event) → HasRead course.follow least most texts lines events → IsStatusOf events code)) }
     ensures told { IfOk result (λ _. (gone : List ℕ) (least most : ℕ) (texts : List (List (List ℕ))) (lines : List (List ℕ)) (events : List Event) → HasJudged course.follow course.answers gone least most texts lines events
-        → TellsRest (W.contents (inner_of writer.old)) (W.contents (inner_of writer.new)) gone least events) }
+        → TellsRest (W.contents (inner_of writer.old)) (W.contents (inner_of writer.new)) gone least (texts ++ lines ∷ []) events) }
     ensures wrote { Leaves W.contents writer.old writer.new result }
 {
     let has_rest = course.has_rest();

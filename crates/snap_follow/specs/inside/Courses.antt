@@ -17,7 +17,7 @@ pub record HasJudged (follow : Follow) (answers : Answers) (gone : List ℕ) (le
   pub read : HasRead follow least most texts lines events
   pub in_time : IsInTime least events read.since
   pub first : EndsFirst least read.before read.since
-  pub told : HasTold answers gone least read.before
+  pub told : HasTold answers gone least (texts ++ lines ∷ []) read.before
 
 -- a line was taken
 abbrev pub TakesLine : Course → Course → List ℕ → Type 0

@@ -20,9 +20,9 @@ abbrev pub IsNoWrite : Stop → Type 0
 IsNoWrite stop = stop ≢ Fault faults.Write
 
 -- the rest of what is told of a recording was written, after these bytes had gone out
-pub record TellsRest (old new : Option (List ℕ)) (gone : List ℕ) (least : ℕ) (events : List Event) : Type 0 where
+pub record TellsRest (old new : Option (List ℕ)) (gone : List ℕ) (least : ℕ) (texts : List (List (List ℕ))) (events : List Event) : Type 0 where
   pub told : List Told
-  pub windows : AreWindowsOf least events told
+  pub windows : AreWindowsOf least texts events told
   pub out : List ℕ
   pub sent : Appends old new out
   pub all : gone ++ out ≡ flat_map line_of told ++ sums_text told

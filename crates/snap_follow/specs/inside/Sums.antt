@@ -52,15 +52,15 @@ abbrev pub WritesLines : Answers → Answers → List ℕ → Type 0
 WritesLines old new out = (old.lines ≡ out) × (new.lines ≡ []) × (new.sums ≡ old.sums)
 
 -- the windows that have ended were answered, and all that they have are these events
-pub record HasTold (answers : Answers) (gone : List ℕ) (least : ℕ) (before : List Event) : Type 0 where
+pub record HasTold (answers : Answers) (gone : List ℕ) (least : ℕ) (texts : List (List (List ℕ))) (before : List Event) : Type 0 where
   pub told : List Told
   pub answered : HasAnswered answers gone told
   pub all : events_of told ≡ before
-  pub each : (front behind : List Told) (t : Told) → told ≡ front ++ t ∷ behind → IsToldAfter least front t
+  pub each : (front behind : List Told) (t : Told) → told ≡ front ++ t ∷ behind → IsToldAfter least texts front t
   pub ended : (front behind : List Told) (t : Told) → told ≡ front ++ t ∷ behind → HasEnded least (events_of front) t.events
 
 -- all windows were answered
-pub record HasToldAll (answers : Answers) (gone : List ℕ) (least : ℕ) (events : List Event) : Type 0 where
+pub record HasToldAll (answers : Answers) (gone : List ℕ) (least : ℕ) (texts : List (List (List ℕ))) (events : List Event) : Type 0 where
   pub told : List Told
   pub answered : HasAnswered answers gone told
-  pub windows : AreWindowsOf least events told
+  pub windows : AreWindowsOf least texts events told

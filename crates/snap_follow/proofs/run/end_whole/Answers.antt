@@ -1,4 +1,4 @@
-use Rattle.std.proofs.Common.{sym, subst}
+use Rattle.std.proofs.Common.{[], ◌∷◌, ◌++◌, sym, subst}
 use Rattle.std.specs.Prelude.{IfSome}
 use Rattle.snap_follow.specs.declared.run.FollowFault.TheVariants.{Memory}
 use Rattle.snap_core.specs.Counting.{inner_of}
@@ -17,5 +17,5 @@ returns-clause-code g c = subst (λ z. IfSome z (IsStatusBy c.args.course)) (sym
 pub returns-clause-told : goal.returns-clause-told
 returns-clause-told g c =
     let contents = g.W.Write.contents in
-    λ gone least most texts lines events h. rest_told c.in_ok-code.answers (contents (inner_of c.args.writer.now)) (contents (inner_of c.write_end.new.writer)) gone least events
+    λ gone least most texts lines events h. rest_told c.in_ok-code.answers (contents (inner_of c.args.writer.now)) (contents (inner_of c.write_end.new.writer)) gone least (texts ++ lines ∷ []) events
     (c.in_ok-code.ensures.told gone least most texts lines events h) c.in_ok-write_end.ensures.told

@@ -1,4 +1,5 @@
-use Rattle.std.proofs.Common.{[], ap, arith, inl, refl}
+use Rattle.std.proofs.Common.{[], ◌∷◌, ap, arith, inl, refl}
+use Rattle.snap_follow.proofs.Placing.{span_of_none}
 use Rattle.snap_follow.proofs.follow.Follow.new.Goals as goal
 
 pub returns : goal.returns
@@ -11,6 +12,7 @@ returns c = record {
   taken = c.new.ensures.taken;
   windows = refl;
   span_is = c.behind.ensures;
+  span_in = span_of_none _ ([] ∷ []) 0;
   earlier = [];
   here = [];
   parts = refl;

@@ -27,7 +27,7 @@ returns-clause-read c =
     let next = subst (λ p. IsNext p c.take_event.new.self.place) same.4 (subst (IsNext c.read_event.new.self.place) (sym place) c.next_place-self.ensures) in
     on_all c.take_event.result _ _ _ _ c.take_event.ensures.taken c.take_event.ensures.counted c.take_event.ensures.span
     (λ taken counts one. event_read c.args.self.now c.take_event.new.self c.args.line.now found.0 x c.if-not-self.false (c.take_event.ensures.headed ∙ same.1) found.1 found.2
-    (rule.0 ∙ same.2, rule.1 ∙ ap (λ z. z.most) same.0) next (subst (λ z. CountsOpen z x c.take_event.new.self.open_calls) same.3 counts) (subst (λ z. HasOneMore z x c.take_event.new.self.span) same.5 one)
+    (rule.0 ∙ same.2, rule.1 ∙ ap (λ z. z.most) same.0) next (subst (λ z. CountsOpen z x c.take_event.new.self.open_calls) same.3 counts) (subst (λ z. HasOneMore z x c.take_event.new.self.place c.take_event.new.self.span) same.5 (subst (λ z. HasOneMore c.read_event.new.self.span x z c.take_event.new.self.span) (sym place) one))
     (subst (λ z. (before since : List Event) → HasTaken z before since → HasTaken c.take_event.new.self.judge before (since ++ x ∷ [])) same.0 taken))
 
 pub returns-clause-refused : goal.returns-clause-refused
