@@ -98,8 +98,10 @@ write: view 1 shows update 1:1, and misses update 0:1, which had ended before th
 " ;;
     new-old-inversion*) status=1 said="regular, and not atomic
 read: view 2 shows more of component 0 than view 3, and had ended before that view began
+  view 2 shows 0:1; view 3 shows 0:0
   call 2 of process 1, records 3 and 4: view 0:1:7
   call 3 of process 2, records 5 and 6: view
+  call 1 of process 0, records 2 and 7: update 0:1:7
 " ;;
     pending-update-seen*) status=0 said="atomic: in this order each view shows the latest updates before it
   call 1 of process 0, record 2, pending: update 0:1:3
@@ -145,8 +147,11 @@ proximity: view 1 shows 0:1, though that update began after the view had ended
 " ;;
     views-disagree*) status=1 said="regular, and not atomic
 read: view 3 shows more of component 0 than view 4, and less of component 1
+  view 3 shows 0:1 and 1:0; view 4 shows 0:0 and 1:1
   call 3 of process 2, records 4 and 6: view 0:1:1
   call 4 of process 3, records 5 and 7: view 1:1:1
+  call 1 of process 0, records 2 and 8: update 0:1:1
+  call 2 of process 1, records 3 and 9: update 1:1:1
 " ;;
     *) status=none said= ;;
   esac

@@ -14,8 +14,8 @@ five_pieces out a b c d e = simp append_assoc
 pub five_in_turn : {A : Type 0} (a b c d e one two three four five : List A) → one ≡ a → two ≡ one ++ b → three ≡ two ++ c → four ≡ three ++ d → five ≡ four ++ e → five ≡ a ++ b ++ c ++ d ++ e
 five_in_turn a b c d e one two three four five h i j k l = rw (l, k, j, i, h) refl
 
+pub six_pieces : {A : Type 0} (out a b c d e f : List A) → out ++ a ++ b ++ c ++ d ++ e ++ f ≡ out ++ (a ++ b ++ c ++ d ++ e ++ f)
+six_pieces out a b c d e f = simp append_assoc
+
 pub seven_pieces : {A : Type 0} (out a b c d e f g : List A) → out ++ a ++ b ++ c ++ d ++ e ++ f ++ g ≡ out ++ (a ++ b ++ c ++ d ++ e ++ f ++ g)
 seven_pieces out a b c d e f g = simp append_assoc
-
-pub nine_pieces : {A : Type 0} (out a b c d e f g h i : List A) → out ++ a ++ b ++ c ++ d ++ e ++ f ++ g ++ h ++ i ≡ out ++ (a ++ b ++ c ++ d ++ e ++ f ++ g ++ h ++ i)
-nine_pieces out a b c d e f g h i = simp append_assoc

@@ -1,7 +1,8 @@
 -- What is said of a fault: a sentence, and the lines of the calls that it is of.
-use Rattle.std.specs.Prelude.{ℕ, suc, List, [], ◌++◌, codes, decimal, if◌then◌else◌, unwrap_or}
+use Rattle.std.specs.Prelude.{ℕ, suc, List, [], ◌∷◌, ◌++◌, codes, decimal, if◌then◌else◌, unwrap_or}
+use Rattle.std.specs.List.{flat_map}
 use Rattle.std.specs.Option.{option_map_or}
-use Rattle.snap_core.specs.Calls.{Call, call_numbered, precedes}
+use Rattle.snap_core.specs.Calls.{Call, call_numbered, precedes, shown_number}
 use Rattle.snap_conditions.specs.declared.fault.IntegrityFault.{IntegrityFault}
 use Rattle.snap_conditions.specs.declared.fault.ProximityFault.{ProximityFault}
 use Rattle.snap_conditions.specs.declared.fault.ReadFault.{ReadFault}
@@ -10,24 +11,30 @@ use Rattle.snap_conditions.specs.declared.fault.Side.{Side}
 use Rattle.snap_conditions.specs.declared.fault.Side.TheVariants.{Old, Early}
 use Rattle.snap_conditions.specs.declared.tally.Tally.{Tally}
 use Rattle.snap_theory.specs.Faults.{least_exceeding}
+use Rattle.snap_theory.specs.FaultWitnesses.{Read, fault_updates}
 use Rattle.snap_theory.specs.Updates.{update_of}
 use Rattle.snap_report.specs.Lines.{call_word, entry_word, update_word}
 use Rattle.snap_witness.specs.Places.{side_number}
 use Rattle.snap_explain.specs.Calls.{call_text}
-
--- the line of the call of a number
-abbrev pub numbered_text : List ℕ → List Call → ℕ → List ℕ
-numbered_text records calls n = call_text records (call_numbered calls n)
+use Rattle.snap_explain.specs.Views.{numbers_text, view_text}
 
 -- the line of update n of component k, if there is one
 abbrev pub update_text : List ℕ → List Call → ℕ → ℕ → List ℕ
 update_text records calls k n = option_map_or (call_text records) (update_of calls k n) []
 
+-- the lines of some updates, each given by its component and its number
+abbrev pub updates_text : List ℕ → List Call → List (ℕ × ℕ) → List ℕ
+updates_text records calls updates = flat_map (λ u. update_text records calls u.0 u.1) updates
+
+-- the line of the view of a number, and the lines of the updates that show its fault
+unfoldable pub concerned_text : List ℕ → List Call → ℕ → List (ℕ × ℕ) → List ℕ
+concerned_text records calls view updates = view_text records updates (call_numbered calls view) ++ updates_text records calls updates
+
 -- a view shows an entry that no update wrote; the other call is the update of that number, if there is one
 abbrev pub integrity_text : List ℕ → List Call → IntegrityFault → List ℕ
 integrity_text records calls f =
     codes "integrity: view " ++ call_word f.view ++ codes " shows " ++ entry_word f.entry ++ codes ", which no update wrote\n"
-    ++ numbered_text records calls f.view ++ update_text records calls f.entry.component f.entry.number
+    ++ concerned_text records calls f.view ((f.entry.component, f.entry.number) ∷ [])
 
 abbrev pub side_text : ℕ → ℕ → Side → List ℕ
 side_text k n Old = codes ", though update " ++ update_word k (suc n) ++ codes " had ended before the view began\n"
@@ -37,7 +44,7 @@ side_text k n Early = codes ", though that update began after the view had ended
 abbrev pub proximity_text : List ℕ → List Call → ProximityFault → List ℕ
 proximity_text records calls f =
     codes "proximity: view " ++ call_word f.view ++ codes " shows " ++ update_word f.component f.number ++ side_text f.component f.number f.side
-    ++ numbered_text records calls f.view ++ update_text records calls f.component (side_number f.side f.number)
+    ++ concerned_text records calls f.view ((f.component, side_number f.side f.number) ∷ [])
 
 -- why a view that shows more of some component than another should show no less of any
 abbrev pub against_text : Call → Call → List ℕ
@@ -45,12 +52,32 @@ against_text r s =
     if precedes r s then codes ", and had ended before that view began\n"
     else codes ", and less of component " ++ decimal (unwrap_or (least_exceeding s r) 0) ++ codes "\n"
 
--- two views disagree
-abbrev pub read_text : List ℕ → List Call → ReadFault → List ℕ
-read_text records calls f =
+abbrev pub read_sentence : List Call → ReadFault → List ℕ
+read_sentence calls f =
     codes "read: view " ++ call_word f.view ++ codes " shows more of component " ++ decimal f.component ++ codes " than view " ++ call_word f.other
     ++ against_text (call_numbered calls f.view) (call_numbered calls f.other)
-    ++ numbered_text records calls f.view ++ numbered_text records calls f.other
+
+-- the updates that show that two views disagree, each by its component and its number
+abbrev pub updates_between : List Call → ReadFault → List (ℕ × ℕ)
+updates_between calls f = fault_updates (Read (call_numbered calls f.view) (call_numbered calls f.other))
+
+-- view A shows K:N and J:M
+abbrev pub view_numbers : List Call → List (ℕ × ℕ) → ℕ → List ℕ
+view_numbers calls updates view = codes "view " ++ call_word view ++ numbers_text (shown_number (call_numbered calls view)) updates
+
+-- what both views show of the components of some updates
+abbrev pub compared_text : List Call → List (ℕ × ℕ) → ReadFault → List ℕ
+compared_text calls updates f = codes "  " ++ view_numbers calls updates f.view ++ codes "; " ++ view_numbers calls updates f.other ++ codes "\n"
+
+-- two views disagree, and some updates show that
+abbrev pub disagreement_text : List ℕ → List Call → List (ℕ × ℕ) → ReadFault → List ℕ
+disagreement_text records calls updates f =
+    read_sentence calls f ++ compared_text calls updates f ++ view_text records updates (call_numbered calls f.view)
+    ++ concerned_text records calls f.other updates
+
+-- two views disagree: what each shows where they differ, both views, and the updates that they show
+abbrev pub read_text : List ℕ → List Call → ReadFault → List ℕ
+read_text records calls f = disagreement_text records calls (updates_between calls f) f
 
 abbrev pub write_sentence : WriteFault → List ℕ
 write_sentence f =
@@ -60,8 +87,8 @@ write_sentence f =
 -- a view shows an update and misses one that preceded it
 abbrev pub write_text : List ℕ → List Call → WriteFault → List ℕ
 write_text records calls f =
-    write_sentence f ++ numbered_text records calls f.view ++ update_text records calls f.missed_component f.missed_number
-    ++ update_text records calls f.shown_component f.shown_number
+    write_sentence f
+    ++ concerned_text records calls f.view ((f.missed_component, f.missed_number) ∷ (f.shown_component, f.shown_number) ∷ [])
 
 -- the first fault of each kind, if there is one
 abbrev pub faults_text : List ℕ → List Call → Tally → List ℕ

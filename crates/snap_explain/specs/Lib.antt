@@ -1,4 +1,5 @@
 pub mod Calls
+pub mod Views
 pub mod Mistakes
 pub mod Faults
 pub mod Explanations

@@ -1,12 +1,10 @@
 //! The line of a call.
-ghost use Rattle.std.specs.Prelude.{◌≡◌, ◌<◌, ◌++◌, OnOk, codes, length};
+ghost use Rattle.std.specs.Prelude.{◌≡◌, ◌<◌, ◌++◌, OnOk, length};
 ghost use Rattle.std.specs.Option.{ForSome};
-ghost use Rattle.std.specs.List.{flat_map};
 ghost use Rattle.snap_core.specs.Calls.{call_numbered, calls_of, entries_of};
 ghost use Rattle.snap_index.specs.IndexedCalls.{indexed_op};
-ghost use Rattle.snap_report.specs.Lines.{entry_word};
-ghost use Rattle.snap_explain.specs.Calls.{call_text, operation_text, records_words};
-ghost use Rattle.snap_explain.specs.Faults.{update_text};
+ghost use Rattle.snap_explain.specs.Calls.{call_begin, call_text, entries_text, operation_text, records_words};
+ghost use Rattle.snap_explain.specs.Faults.{update_text, updates_text};
 
 use snap_core::Entry;
 use snap_index::{Call, CallOp, Index};
@@ -32,9 +30,9 @@ fn put_records(out: &mut Vec<u8>, records: &[u32], call: &Call) -> Result<(), Al
     }
 }
 
-// Adds entries, each after a space.
-fn put_entries(out: &mut Vec<u8>, entries: &[Entry]) -> Result<(), AllocError>
-    ensures { OnOk result (out.new.items ≡ out.old.items ++ flat_map (λ entry. codes " " ++ entry_word entry) entries.now) }
+/// Adds entries, each after a space.
+pub(crate) fn put_entries(out: &mut Vec<u8>, entries: &[Entry]) -> Result<(), AllocError>
+    ensures { OnOk result (out.new.items ≡ out.old.items ++ entries_text entries.now) }
 {
     for entry in entries {
         put_entry(out, b" ", entry)?;
@@ -45,8 +43,7 @@ fn put_entries(out: &mut Vec<u8>, entries: &[Entry]) -> Result<(), AllocError>
 // Adds what a call shows: nothing if it is not a completed view.
 fn put_shown(out: &mut Vec<u8>, index: &Index<'_>, number: u32) -> Result<(), AllocError>
     requires { number < length (calls_of index.now) }
-    ensures { OnOk result (out.new.items ≡ out.old.items
-        ++ flat_map (λ entry. codes " " ++ entry_word entry) (entries_of (call_numbered (calls_of index.now) number).operation)) }
+    ensures { OnOk result (out.new.items ≡ out.old.items ++ entries_text (entries_of (call_numbered (calls_of index.now) number).operation)) }
 {
     match index.answer(number) {
         Some(view) => put_entries(out, view.entries()),
@@ -74,6 +71,29 @@ fn put_operation(
     }
 }
 
+/// Begins the line of the call of a number: it adds the number, the process, and the records.
+pub(crate) fn put_begin(
+    out: &mut Vec<u8>,
+    index: &Index<'_>,
+    records: &[u32],
+    number: u32,
+) -> Result<(), AllocError>
+    requires each { length records.now ≡ length index.now }
+    requires below { number < length (calls_of index.now) }
+    ensures { OnOk result (out.new.items ≡ out.old.items ++ call_begin records.now (call_numbered (calls_of index.now) number)) }
+{
+    // what is known of the history that the index is of
+    let _events = index.event_count();
+    let Some(call) = index.call(number) else {
+        unreachable!()
+    };
+    put_call(out, b"  call ", number)?;
+    put_number(out, b" of process ", u64::from(call.process))?;
+    out.extend_from_slice(b", ")?;
+    put_records(out, records, call)?;
+    out.extend_from_slice(b": ")
+}
+
 /// Adds the line of the call of a number.
 pub(crate) fn put_call_line(
     out: &mut Vec<u8>,
@@ -85,22 +105,16 @@ pub(crate) fn put_call_line(
     requires below { number < length (calls_of index.now) }
     ensures { OnOk result (out.new.items ≡ out.old.items ++ call_text records.now (call_numbered (calls_of index.now) number)) }
 {
-    // what is known of the history that the index is of
-    let _events = index.event_count();
     let Some(call) = index.call(number) else {
         unreachable!()
     };
-    put_call(out, b"  call ", number)?;
-    put_number(out, b" of process ", u64::from(call.process))?;
-    out.extend_from_slice(b", ")?;
-    put_records(out, records, call)?;
-    out.extend_from_slice(b": ")?;
+    put_begin(out, index, records, number)?;
     put_operation(out, index, number, call.op)?;
     out.extend_from_slice(b"\n")
 }
 
-/// Adds the line of an update, if there is one of that component and number.
-pub(crate) fn put_update_line(
+// Adds the line of an update, if there is one of that component and number.
+fn put_update_line(
     out: &mut Vec<u8>,
     index: &Index<'_>,
     records: &[u32],
@@ -114,4 +128,20 @@ pub(crate) fn put_update_line(
         Some(call) => put_call_line(out, index, records, call),
         None => Ok(()),
     }
+}
+
+/// Adds the lines of some updates, each given by its component and its number. There is no line if there is no such update.
+pub(crate) fn put_updates(
+    out: &mut Vec<u8>,
+    index: &Index<'_>,
+    records: &[u32],
+    updates: &[(u8, u32)],
+) -> Result<(), AllocError>
+    requires { length records.now ≡ length index.now }
+    ensures { OnOk result (out.new.items ≡ out.old.items ++ updates_text records.now (calls_of index.now) updates.now) }
+{
+    for update in updates {
+        put_update_line(out, index, records, update.0, update.1)?;
+    }
+    Ok(())
 }

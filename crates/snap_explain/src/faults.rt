@@ -4,14 +4,15 @@ ghost use Rattle.std.specs.Option.{ForSome, option_map_or};
 ghost use Rattle.snap_core.specs.Calls.{Call, call_numbered, calls_of, views_of};
 ghost use Rattle.snap_core.specs.Events.{event_cap};
 ghost use Rattle.snap_conditions.specs.Tally.{tally_of};
-ghost use Rattle.snap_witness.specs.Places.{IsViewAt, side_number as spec_side_number};
-ghost use Rattle.snap_explain.specs.Faults.{against_text, faults_text, integrity_text, proximity_text, read_text, side_text, write_sentence, write_text};
+ghost use Rattle.snap_witness.specs.Places.{AreReadAt, IsViewAt, side_number as spec_side_number};
+ghost use Rattle.snap_explain.specs.Faults.{against_text, compared_text, concerned_text, disagreement_text, faults_text, integrity_text, proximity_text, read_sentence, read_text, side_text, write_sentence, write_text};
 
-use crate::call::{put_call_line, put_update_line};
+use crate::call::put_updates;
+use crate::view::{put_numbers, put_view_line};
 use snap_conditions::{IntegrityFault, ProximityFault, ReadFault, Side, Tally, WriteFault};
 use snap_index::Index;
 use snap_report::{put_call, put_entry, put_number, put_update};
-use snap_witness::{least_exceeding, side_number, view_numbered};
+use snap_witness::{least_exceeding, read_updates, side_number, view_numbered};
 use std::alloc::AllocError;
 
 // A fault that is explained, if its views are completed views of the history.
@@ -27,6 +28,22 @@ trait Explained: Copy {
         ensures { OnOk result (out.new.items ≡ out.old.items ++ text records.now (calls_of index.now) self.now) };
 }
 
+// Adds the line of a view, and the lines of the updates that show its fault.
+fn put_concerned(
+    out: &mut Vec<u8>,
+    index: &Index<'_>,
+    records: &[u32],
+    view: u32,
+    updates: &[(u8, u32)],
+) -> Result<(), AllocError>
+    requires each { length records.now ≡ length index.now }
+    requires named { IsViewAt (calls_of index.now) view }
+    ensures { OnOk result (out.new.items ≡ out.old.items ++ concerned_text records.now (calls_of index.now) view updates.now) }
+{
+    put_view_line(out, index, records, view, updates)?;
+    put_updates(out, index, records, updates)
+}
+
 impl Explained for IntegrityFault {
     ghost text = { integrity_text };
 
@@ -36,8 +53,8 @@ impl Explained for IntegrityFault {
         put_call(out, b"integrity: view ", self.view)?;
         put_entry(out, b" shows ", &self.entry)?;
         out.extend_from_slice(b", which no update wrote\n")?;
-        put_call_line(out, index, records, self.view)?;
-        put_update_line(out, index, records, self.entry.component, self.entry.number)
+        let written = (self.entry.component, self.entry.number);
+        put_concerned(out, index, records, self.view, &[written])
     }
 }
 
@@ -67,8 +84,7 @@ impl Explained for ProximityFault {
         put_call(out, b"proximity: view ", self.view)?;
         put_update(out, b" shows ", self.component, self.number)?;
         put_side(out, self, update)?;
-        put_call_line(out, index, records, self.view)?;
-        put_update_line(out, index, records, self.component, update)
+        put_concerned(out, index, records, self.view, &[(self.component, update)])
     }
 }
 
@@ -93,18 +109,62 @@ fn put_against(
     out.extend_from_slice(b"\n")
 }
 
+// Adds the sentence of a read fault.
+fn put_read(out: &mut Vec<u8>, index: &Index<'_>, fault: &ReadFault) -> Result<(), AllocError>
+    requires named { AreReadAt (calls_of index.now) fault.now }
+    ensures { OnOk result (out.new.items ≡ out.old.items ++ read_sentence (calls_of index.now) fault.now) }
+{
+    put_call(out, b"read: view ", fault.view)?;
+    put_number(
+        out,
+        b" shows more of component ",
+        u64::from(fault.component),
+    )?;
+    put_call(out, b" than view ", fault.other)?;
+    put_against(out, index, fault.view, fault.other)
+}
+
+// Adds what both views of a read fault show of the components of the updates that show the fault.
+fn put_compared(
+    out: &mut Vec<u8>,
+    index: &Index<'_>,
+    fault: &ReadFault,
+    updates: &[(u8, u32)],
+) -> Result<(), AllocError>
+    requires named { AreReadAt (calls_of index.now) fault.now }
+    ensures { OnOk result (out.new.items ≡ out.old.items ++ compared_text (calls_of index.now) updates.now fault.now) }
+{
+    put_numbers(out, b"  ", index, fault.view, updates)?;
+    put_numbers(out, b"; ", index, fault.other, updates)?;
+    out.extend_from_slice(b"\n")
+}
+
+// Adds what is said of a read fault that these updates show.
+fn put_disagreement(
+    out: &mut Vec<u8>,
+    index: &Index<'_>,
+    records: &[u32],
+    fault: &ReadFault,
+    updates: &[(u8, u32)],
+) -> Result<(), AllocError>
+    requires each { length records.now ≡ length index.now }
+    requires named { AreReadAt (calls_of index.now) fault.now }
+    ensures { OnOk result (out.new.items ≡ out.old.items ++ disagreement_text records.now (calls_of index.now) updates.now fault.now) }
+{
+    put_read(out, index, fault)?;
+    put_compared(out, index, fault, updates)?;
+    put_view_line(out, index, records, fault.view, updates)?;
+    put_concerned(out, index, records, fault.other, updates)
+}
+
 impl Explained for ReadFault {
     ghost text = { read_text };
 
-    ghost is_named = { λ calls f. IsViewAt calls f.view × IsViewAt calls f.other };
+    ghost is_named = { AreReadAt };
 
     fn put(&self, out: &mut Vec<u8>, index: &Index<'_>, records: &[u32]) -> Result<(), AllocError> {
-        put_call(out, b"read: view ", self.view)?;
-        put_number(out, b" shows more of component ", u64::from(self.component))?;
-        put_call(out, b" than view ", self.other)?;
-        put_against(out, index, self.view, self.other)?;
-        put_call_line(out, index, records, self.view)?;
-        put_call_line(out, index, records, self.other)
+        let updates = read_updates(*out.allocator(), index, self.view, self.other)?;
+        put_disagreement(out, index, records, self, &updates)
     }
 }
 
@@ -134,16 +194,10 @@ impl Explained for WriteFault {
     ghost is_named = { λ calls f. IsViewAt calls f.view };
 
     fn put(&self, out: &mut Vec<u8>, index: &Index<'_>, records: &[u32]) -> Result<(), AllocError> {
+        let missed = (self.missed_component, self.missed_number);
+        let shown = (self.shown_component, self.shown_number);
         put_write(out, self)?;
-        put_call_line(out, index, records, self.view)?;
-        put_update_line(
-            out,
-            index,
-            records,
-            self.missed_component,
-            self.missed_number,
-        )?;
-        put_update_line(out, index, records, self.shown_component, self.shown_number)
+        put_concerned(out, index, records, self.view, &[missed, shown])
     }
 }
 

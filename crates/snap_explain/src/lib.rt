@@ -7,6 +7,7 @@ mod explanation;
 mod faults;
 mod mistake;
 mod refusal;
+mod view;
 
 pub use explanation::explain;
 pub use refusal::explain_refusal;

@@ -10,7 +10,7 @@ use snap_testing::worked::{
     ATOMIC_RUN, CROSSED_VIEWS, MISSED_UPDATE, NEVER_WRITTEN, NEW_THEN_OLD, NOTHING, SEEN_PENDING,
     SHOWN_TOO_EARLY, STALE_AND_WRONG, WRONG_VALUE,
 };
-use snap_testing::{Step, history_of};
+use snap_testing::{Shown, Step, history_of};
 use snap_text::TextFault;
 use snap_verdict::order_alone;
 use std::alloc::{AllocError, Global};
@@ -121,16 +121,21 @@ const WORKED: &[(&[Step<'static>], u16, &str)] = &[
         2,
         "regular, and not atomic\n\
         read: view 2 shows more of component 0 than view 3, and had ended before that view began\n\
+        \x20 view 2 shows 0:1; view 3 shows 0:0\n\
         \x20 call 2 of process 1, records 3 and 4: view 0:1:7\n\
-        \x20 call 3 of process 2, records 5 and 6: view\n",
+        \x20 call 3 of process 2, records 5 and 6: view\n\
+        \x20 call 1 of process 0, records 2 and 7: update 0:1:7\n",
     ),
     (
         CROSSED_VIEWS,
         2,
         "regular, and not atomic\n\
         read: view 3 shows more of component 0 than view 4, and less of component 1\n\
+        \x20 view 3 shows 0:1 and 1:0; view 4 shows 0:0 and 1:1\n\
         \x20 call 3 of process 2, records 4 and 6: view 0:1:1\n\
-        \x20 call 4 of process 3, records 5 and 7: view 1:1:1\n",
+        \x20 call 4 of process 3, records 5 and 7: view 1:1:1\n\
+        \x20 call 1 of process 0, records 2 and 8: update 0:1:1\n\
+        \x20 call 2 of process 1, records 3 and 9: update 1:1:1\n",
     ),
     (
         MISSED_UPDATE,
@@ -159,6 +164,59 @@ fn each_worked_history_has_its_explanation_with_records_from_the_first_on(
         let found = explanation_from(rt.alloc(), steps, *first)?;
         assert!(rt; found.as_slice() == text.as_bytes(), "{text}");
     }
+    Ok(())
+}
+
+// An entry of each of 64 components: of two components these, and of the others 7, which update 1 wrote.
+fn board(alloc: Global, one: Shown, two: Shown) -> Result<Vec<Shown>, AllocError> {
+    let mut entries = Vec::new(alloc);
+    for component in 0..64u8 {
+        entries.push(if component == one.0 {
+            one
+        } else if component == two.0 {
+            two
+        } else {
+            (component, 1, 7)
+        })?;
+    }
+    Ok(entries)
+}
+
+// Two views of 64 components that overlap two updates. Each shows another one of these.
+fn crossed_boards(alloc: Global) -> Result<History, Fail> {
+    let earlier = board(alloc, (61, 2, 9), (31, 1, 7))?;
+    let later = board(alloc, (61, 1, 7), (31, 2, 8))?;
+    let mut steps = Vec::new(alloc);
+    for component in 0..64u8 {
+        let writer = u16::from(component);
+        steps.extend_from_slice(&[Update(writer, (component, 1, 7)), Updated(writer)])?;
+    }
+    steps.extend_from_slice(&[
+        Update(31, (31, 2, 8)),
+        Update(61, (61, 2, 9)),
+        View(64),
+        View(65),
+        Viewed(64, &earlier),
+        Viewed(65, &later),
+        Updated(31),
+        Updated(61),
+    ])?;
+    Ok(history_of(alloc, &steps)?)
+}
+
+const CROSSED: &str = "regular, and not atomic\n\
+    read: view 67 shows more of component 61 than view 68, and less of component 31\n\
+    \x20 view 67 shows 61:2 and 31:1; view 68 shows 61:1 and 31:2\n\
+    \x20 call 67 of process 64, records 132 and 134: view 31:1:7 61:2:9 and 62 more entries\n\
+    \x20 call 68 of process 65, records 133 and 135: view 31:2:8 61:1:7 and 62 more entries\n\
+    \x20 call 66 of process 61, records 131 and 137: update 61:2:9\n\
+    \x20 call 65 of process 31, records 130 and 136: update 31:2:8\n";
+
+#[test]
+fn of_large_views_the_entries_are_named_in_which_they_differ(rt: HostRuntime) -> Result<(), Fail> {
+    let history = crossed_boards(rt.alloc())?;
+    let found = explained_from(rt.alloc(), &history, 2)?;
+    assert!(rt; found.as_slice() == CROSSED.as_bytes(), "two large views");
     Ok(())
 }
 

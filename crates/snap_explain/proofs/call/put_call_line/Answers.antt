@@ -1,28 +1,11 @@
-use Rattle.std.proofs.Common.{◌≡◌, ◌++◌, ◌∙◌, ap, sym, codes, decimal, arith}
-use Rattle.snap_core.specs.Calls.{call_numbered, calls_of, nobody}
-use Rattle.snap_core.proofs.Histories.{numbered_calls}
+use Rattle.std.proofs.Common.{◌++◌, ap, codes}
+use Rattle.snap_core.specs.Calls.{call_numbered, calls_of}
 use Rattle.snap_index.specs.declared.call.Call.{Call}
-use Rattle.snap_report.specs.Lines.{call_word}
 use Rattle.snap_report.proofs.Calls.{op_is}
 use Rattle.snap_report.proofs.Pieces.{piece_added}
-use Rattle.snap_explain.specs.Calls.{call_text, operation_text, records_words}
-use Rattle.snap_witness.proofs.Within.{call_is_within}
-use Rattle.snap_explain.proofs.Pieces.{nine_pieces}
+use Rattle.snap_explain.specs.Calls.{call_begin, call_text, operation_text}
+use Rattle.snap_explain.proofs.Pieces.{three_pieces}
 use Rattle.snap_explain.proofs.call.put_call_line.Goals as goal
-
-pub put_records-requires-clause-begun : goal.put_records-requires-clause-begun
-put_records-requires-clause-begun c =
-    let es = c.args.index.now in
-    let is = op_is es c.args.number c.in-Some.call.now c.requires.below c.in-Some.ensures in
-    let within = (call_is_within es c.event_count-events.ensures.kept.history c.args.number c.requires.below).begun in
-    omega (arith, within, ap (λ (b : Call). b.begun) is, c.requires.each)
-
-pub put_records-requires-clause-ended : goal.put_records-requires-clause-ended
-put_records-requires-clause-ended c =
-    let es = c.args.index.now in
-    let is = op_is es c.args.number c.in-Some.call.now c.requires.below c.in-Some.ensures in
-    let within = (call_is_within es c.event_count-events.ensures.kept.history c.args.number c.requires.below).ended in
-    λ place e. let few = within place (sym (ap (λ (b : Call). b.ended) is) ∙ e) in omega (arith, few, c.requires.each)
 
 pub put_operation-requires-clause-same : goal.put_operation-requires-clause-same
 put_operation-requires-clause-same c =
@@ -31,17 +14,9 @@ put_operation-requires-clause-same c =
 pub returns : goal.returns
 unfolding call_text
 returns c =
-    let es = c.args.index.now in
     let out = c.args.out.now.items in
-    let n = c.args.number in
-    let call = call_numbered (calls_of es) n in
-    let is = op_is es n c.in-Some.call.now c.requires.below c.in-Some.ensures in
-    let number = numbered_calls es n nobody c.requires.below in
-    let records = records_words c.args.records.now call.begun call.ended in
-    let does = operation_text call.operation in
-    let same : records_words c.args.records.now c.in-Some.call.now.begun c.in-Some.call.now.ended ≡ records = ap (λ (b : Call). records_words c.args.records.now b.begun b.ended) is in
-    let process : c.from.result ≡ call.process = c.from.ensures ∙ ap (λ (b : Call). b.process) is in
-    piece_added c.extend_from_slice-3.result c.extend_from_slice-3.new.self.items c.put_operation.new.out.items (codes "\n")
-    (out ++ call_text c.args.records.now call) c.extend_from_slice-3.ensures.items
-    (rw (c.in_ok-put_operation.ensures, c.in_ok-extend_from_slice-2.ensures.items, c.in_ok-put_records.ensures, c.in_ok-extend_from_slice.ensures.items, c.in_ok-put_number.ensures, c.in_ok-put_call.ensures, same, process, number)
-    (nine_pieces out (codes "  call ") (call_word n) (codes " of process ") (decimal call.process) (codes ", ") records (codes ": ") does (codes "\n")))
+    let call = call_numbered (calls_of c.args.index.now) c.args.number in
+    piece_added c.extend_from_slice.result c.extend_from_slice.new.self.items c.put_operation.new.out.items (codes "\n")
+    (out ++ call_text c.args.records.now call) c.extend_from_slice.ensures.items
+    (rw (c.in_ok-put_operation.ensures, c.in_ok-put_begin.ensures)
+    (three_pieces out (call_begin c.args.records.now call) (operation_text call.operation) (codes "\n")))

@@ -1,9 +1,7 @@
-use Rattle.std.proofs.Common.{◌++◌, codes, decimal}
-use Rattle.snap_core.specs.Calls.{call_numbered, calls_of}
-use Rattle.snap_report.specs.Lines.{call_word}
+use Rattle.std.proofs.Common.{◌++◌, ◌∙◌, ap}
+use Rattle.snap_core.specs.Calls.{calls_of}
 use Rattle.snap_report.proofs.Pieces.{same_text}
-use Rattle.snap_explain.specs.Faults.{against_text, numbered_text, read_text}
-use Rattle.snap_explain.proofs.Pieces.{nine_pieces}
+use Rattle.snap_explain.specs.Faults.{disagreement_text, read_text}
 use Rattle.snap_explain.proofs.faults.ReadFaultExplained.put.Goals as goal
 
 pub returns : goal.returns
@@ -12,8 +10,6 @@ returns c =
     let calls = calls_of c.args.index.now in
     let records = c.args.records.now in
     let f = c.args.self.now in
-    same_text c.put_call_line-2.result c.put_call_line-2.new.out.items _ (out ++ read_text records calls f)
-    (rw (c.in_ok-put_call_line.ensures, c.in_ok-put_against.ensures, c.in_ok-put_call-2.ensures, c.in_ok-put_number.ensures, c.in_ok-put_call.ensures, c.from.ensures)
-    (nine_pieces out (codes "read: view ") (call_word f.view) (codes " shows more of component ") (decimal f.component) (codes " than view ") (call_word f.other)
-    (against_text (call_numbered calls f.view) (call_numbered calls f.other)) (numbered_text records calls f.view) (numbered_text records calls f.other)))
-    c.put_call_line-2.ensures
+    same_text c.put_disagreement.result c.put_disagreement.new.out.items _ (out ++ read_text records calls f)
+    (ap (λ updates. out ++ disagreement_text records calls updates f) (c.deref.ensures.value ∙ c.in_ok-updates.ensures))
+    c.put_disagreement.ensures
