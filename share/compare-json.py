@@ -10,6 +10,7 @@ import re
 import subprocess
 import sys
 
+COMPARED = re.compile(r"^  view \d+ shows (.*); view \d+ shows (.*)$", re.MULTILINE)
 KINDS = ("integrity", "proximity", "read", "write")
 CALL = re.compile(
     r"  call (?P<call>\d+) of process (?P<process>\d+), (?:records (?P<begin>\d+) and (?P<end>\d+)|record (?P<only>\d+), pending): "
@@ -61,8 +62,19 @@ def named(word, call):
     return {"component": component, "number": number, "update": call}
 
 
-def fault_of(words, calls):
-    """The object of a fault, by the words of its line and by its calls."""
+def differences(compared, updates):
+    """The objects of where two views differ, by the line that compares their numbers, and by the updates of these."""
+    both = [[numbers(word) for word in shown.split(" and ")] for shown in compared]
+    found = []
+    for (component, number), (_, other) in zip(*both):
+        of_greater = [it for it in updates if (it["entries"][0]["component"], it["entries"][0]["number"]) == (component, max(number, other))]
+        update = of_greater[0] if of_greater else None
+        found.append({"component": component, "view_number": number, "other_number": other, "update": update})
+    return found
+
+
+def fault_of(words, calls, compared):
+    """The object of a fault, by the words of its line, by its calls, and by the line that compares its views."""
     fault = {"count": int(words[1]), "view": calls[0]}
     other = calls[1] if len(calls) > 1 else None
     if words[0] == "integrity":
@@ -71,7 +83,7 @@ def fault_of(words, calls):
         component, number = numbers(words[6])
         return fault | {"component": component, "number": number, "side": words[7], "update": other}
     if words[0] == "read":
-        return fault | {"other": other, "component": int(words[8])}
+        return fault | {"other": other, "component": int(words[8]), "differs": differences(compared, calls[2:])}
     return fault | {"misses": named(words[6], other), "shows": named(words[8], calls[2])}
 
 
@@ -87,7 +99,9 @@ def wanted(program, name):
     found |= {words[0]: words[1] == "yes" for words in lines[1:4]}
     found |= dict.fromkeys(KINDS)
     calls = calls_by_kind(explanation)
-    return found | {words[0]: fault_of(words, calls[words[0]]) for words in lines[4:] if words[0] in KINDS}
+    compared = COMPARED.search(explanation)
+    shown = compared.groups() if compared else ()
+    return found | {words[0]: fault_of(words, calls[words[0]], shown) for words in lines[4:] if words[0] in KINDS}
 
 
 def main(program, *names):

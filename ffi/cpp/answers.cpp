@@ -53,8 +53,21 @@ std::string told(const snapjudge::ProximityFault &fault) {
                    {"update", call_of(fault.update)}});
 }
 
+std::string told(const snapjudge::Difference &it) {
+    return object({{"component", number(it.component)},
+                   {"view_number", number(it.view_number)},
+                   {"other_number", number(it.other_number)},
+                   {"update", it.update ? told(*it.update) : "null"}});
+}
+
 std::string told(const snapjudge::ReadFault &fault) {
-    return object({{"count", number(fault.count)}, {"view", told(fault.view)}, {"other", told(fault.other)}, {"component", number(fault.component)}});
+    std::string differs;
+    for (const auto &it : fault.differs) differs += (differs.empty() ? "" : ",") + told(it);
+    return object({{"count", number(fault.count)},
+                   {"view", told(fault.view)},
+                   {"other", told(fault.other)},
+                   {"component", number(fault.component)},
+                   {"differs", "[" + differs + "]"}});
 }
 
 std::string told(const snapjudge::WriteFault &fault) {

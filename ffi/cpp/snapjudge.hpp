@@ -65,11 +65,19 @@ struct ProximityFault {
     Update update;
 };
 
-/// A view shows more of a component than another, which shows more elsewhere or begins after it.
+/// What the two views of a read fault show of a component, 0 for nothing. The update is the one of the greater number.
+struct Difference {
+    std::uint32_t component = 0, view_number = 0, other_number = 0;
+    std::optional<Call> update;
+};
+
+/// A view shows more of a component than another, which shows more elsewhere or begins after it. The views differ in the component, and
+/// in the one of which the other shows more.
 struct ReadFault {
     std::uint64_t count = 0;
     Call view, other;
     std::uint32_t component = 0;
+    std::vector<Difference> differs;
 };
 
 /// A view shows an update, and misses one that preceded it.
@@ -264,6 +272,16 @@ inline Update update_of(std::uint32_t component, std::uint32_t number, const Jso
 
 inline Update named(const Json &json) { return update_of(json["component"].small(), json["number"].small(), json["update"]); }
 
+inline std::vector<Difference> differences_of(const Json &json) {
+    std::vector<Difference> made;
+    for (const auto &[_, it] : json.members) {
+        Difference next{it["component"].small(), it["view_number"].small(), it["other_number"].small(), std::nullopt};
+        if (!it["update"].is_null()) next.update = call_of(it["update"]);
+        made.push_back(std::move(next));
+    }
+    return made;
+}
+
 inline Faults faults_of(const Json &json) {
     Faults made;
     if (const Json &f = json["integrity"]; !f.is_null()) {
@@ -278,7 +296,7 @@ inline Faults faults_of(const Json &json) {
         made.proximity = ProximityFault{f["count"].number, call_of(f["view"]), is_old, component, number, update};
     }
     if (const Json &f = json["read"]; !f.is_null())
-        made.read = ReadFault{f["count"].number, call_of(f["view"]), call_of(f["other"]), f["component"].small()};
+        made.read = ReadFault{f["count"].number, call_of(f["view"]), call_of(f["other"]), f["component"].small(), differences_of(f["differs"])};
     if (const Json &f = json["write"]; !f.is_null())
         made.write = WriteFault{f["count"].number, call_of(f["view"]), named(f["misses"]), named(f["shows"])};
     return made;

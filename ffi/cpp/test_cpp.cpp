@@ -46,6 +46,12 @@ void try_read() {
     expect(fault->view.call == 2 && fault->view.process == 1 && fault->view.begin == 3 && fault->view.end == 4u, "its first view");
     expect(fault->view.entries.size() == 1 && is(fault->view.entries[0], 0, 1, 7), "what that shows");
     expect(fault->other.call == 3 && fault->other.begin == 5 && fault->other.end == 6u && fault->other.entries.empty(), "its second view");
+    expect(fault->differs.size() == 1 && fault->differs[0].component == 0, "where they differ");
+    if (fault->differs.size() == 1) {
+        const auto &differs = fault->differs[0];
+        expect(differs.view_number == 1 && differs.other_number == 0, "the numbers that they show there");
+        expect(differs.update && differs.update->call == 1 && differs.update->end == 7u, "the update that one of them misses");
+    }
     expect(judged.order.empty(), "no order");
     const auto witness = snapjudge::shrink(text);
     expect(witness.status == judged.status && witness.text == text, "a witness of all its calls");

@@ -60,7 +60,9 @@ func TestEachKindOfFaultIsTold(t *testing.T) {
 	judged = check(t, "begin,0,update,0:1:7\nbegin,1,view,\nend,1,view,0:1:7\nbegin,2,view,\nend,2,view,\nend,0,update,\n")
 	expect(t, judged.Status, snapjudge.Regular)
 	expect(t, judged.Monotone, false)
-	expect(t, *judged.Read, snapjudge.ReadFault{Count: 1, View: call(2, 1, snapjudge.View, 3, 4, 7), Other: call(3, 2, snapjudge.View, 5, 6)})
+	update = call(1, 0, snapjudge.Update, 2, 7, 7)
+	expect(t, *judged.Read, snapjudge.ReadFault{Count: 1, View: call(2, 1, snapjudge.View, 3, 4, 7), Other: call(3, 2, snapjudge.View, 5, 6),
+		Differs: []snapjudge.Difference{{ViewNumber: 1, Update: &update}}})
 
 	judged = check(t, "begin,2,view,\nbegin,0,update,0:1:5\nend,0,update,\nbegin,1,update,1:1:6\nend,1,update,\nend,2,view,1:1:6\n")
 	misses, shows := call(2, 0, snapjudge.Update, 3, 4, 5), call(3, 1, snapjudge.Update, 5, 6, 0, 6)

@@ -83,12 +83,21 @@ type ProximityFault struct {
 	Update    *Call  `json:"update"` // the update that an old view misses, or that an early one shows; nil if there is none
 }
 
+// Difference is what the two views of a read fault show of a component, 0 for nothing.
+type Difference struct {
+	Component   uint32 `json:"component"`
+	ViewNumber  uint32 `json:"view_number"`
+	OtherNumber uint32 `json:"other_number"`
+	Update      *Call  `json:"update"` // the update of the greater number; nil if the history has none
+}
+
 // ReadFault says that a view shows more of a component than another, which shows more elsewhere or begins after it.
 type ReadFault struct {
-	Count     uint64 `json:"count"`
-	View      Call   `json:"view"`
-	Other     Call   `json:"other"`
-	Component uint32 `json:"component"`
+	Count     uint64       `json:"count"`
+	View      Call         `json:"view"`
+	Other     Call         `json:"other"`
+	Component uint32       `json:"component"`
+	Differs   []Difference `json:"differs"` // the component, and the one of which the other view shows more
 }
 
 // NamedUpdate is an update by its component and number.

@@ -148,6 +148,12 @@ class Judge(unittest.TestCase):
         self.assertEqual(judged.faults[0].calls, {"view": view, "misses": missed, "shows": shown})
         self.assertEqual(json.loads(json.dumps(judged.to_dict()))["faults"][0]["calls"]["misses"]["begin"], 3)
 
+    def test_a_read_fault_has_where_its_views_differ(self):
+        judged = snapjudge.check(HEADER + "begin,0,update,0:1:7\nbegin,1,view,\nend,1,view,0:1:7\nbegin,2,view,\nend,2,view,\nend,0,update,\n")
+        update = snapjudge.Call(1, 0, "update", 2, 7, (snapjudge.Entry(0, 1, 7),))
+        self.assertEqual(judged.faults[0].differs, (snapjudge.Difference(0, 1, 0, update),))
+        self.assertEqual(judged.to_dict()["faults"][0]["differs"][0]["view_number"], 1)
+
     def test_a_history_may_be_a_file(self):
         for name, text, wanted in examples():
             self.assertEqual(snapjudge.report(pathlib.Path(name)), (status_of(wanted), wanted))

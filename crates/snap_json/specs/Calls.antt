@@ -1,8 +1,10 @@
 -- A call as JSON, with the records of its begin and its end.
 use Rattle.std.specs.Prelude.{ℕ, ◌+◌, List, [], ◌∷◌, Option, Some, None, codes, get_or}
+use Rattle.std.specs.Option.{option_map_or}
 use Rattle.json.specs.Json.{Json, null, string, array, Items, no_items, item}
 use Rattle.snap_core.specs.declared.entry.Entry.{Entry}
 use Rattle.snap_core.specs.Calls.{Call, Operation, Updates, Views, entries_of}
+use Rattle.snap_theory.specs.Updates.{update_of}
 use Rattle.snap_json.specs.Values.{number_json, object_of}
 
 -- {"component":K,"number":N,"value":V}
@@ -37,3 +39,7 @@ unfoldable pub call_json : List ℕ → Call → Json
 call_json records c =
     object_of ((codes "call", number_json (c.number + 1)) ∷ (codes "process", number_json c.process) ∷ (codes "op", string (op_word c.operation))
     ∷ (codes "begin", record_json records c.begun) ∷ (codes "end", end_json records c.ended) ∷ (codes "entries", array (entry_items (entries_in c.operation))) ∷ [])
+
+-- update n of component k, and null if there is none
+abbrev pub update_json : List ℕ → List Call → ℕ → ℕ → Json
+update_json records calls k n = option_map_or (call_json records) (update_of calls k n) null

@@ -9,18 +9,14 @@ use Rattle.snap_conditions.specs.declared.fault.ReadFault.{ReadFault}
 use Rattle.snap_conditions.specs.declared.fault.WriteFault.{WriteFault}
 use Rattle.snap_conditions.specs.declared.tally.Tally.{Tally}
 use Rattle.snap_conditions.specs.PartValue.{PartValue}
-use Rattle.snap_theory.specs.Updates.{update_of}
 use Rattle.snap_report.specs.Faults.{side_word}
 use Rattle.snap_witness.specs.Places.{side_number}
-use Rattle.snap_json.specs.Calls.{call_json, entry_json}
+use Rattle.snap_json.specs.Calls.{call_json, entry_json, update_json}
+use Rattle.snap_json.specs.Differs.{differs_json}
 use Rattle.snap_json.specs.Values.{Field, number_json, object_of}
 
 abbrev pub numbered_json : List ℕ → List Call → ℕ → Json
 numbered_json records calls n = call_json records (call_numbered calls n)
-
--- update n of component k, and null if there is none
-abbrev pub update_json : List ℕ → List Call → ℕ → ℕ → Json
-update_json records calls k n = option_map_or (call_json records) (update_of calls k n) null
 
 -- {"component":K,"number":N,"update":CALL}
 abbrev pub named_json : List ℕ → List Call → ℕ → ℕ → Json
@@ -47,7 +43,8 @@ proximity_json records calls count f =
 -- two views disagree: the view shows more of the component than the other one
 unfoldable pub read_json : List ℕ → List Call → ℕ → ReadFault → Json
 read_json records calls count f =
-    fault_json records calls count f.view ((codes "other", numbered_json records calls f.other) ∷ (codes "component", number_json f.component) ∷ [])
+    fault_json records calls count f.view
+    ((codes "other", numbered_json records calls f.other) ∷ (codes "component", number_json f.component) ∷ (codes "differs", differs_json records calls f) ∷ [])
 
 -- a view shows an update and misses one that preceded it
 unfoldable pub write_json : List ℕ → List Call → ℕ → WriteFault → Json

@@ -7,8 +7,7 @@ ghost use Rattle.json.specs.Token as token;
 ghost use Rattle.json.specs.Tree.{json_tokens};
 ghost use Rattle.snap_core.specs.Calls.{Operation, call_numbered, calls_of, entries_of};
 ghost use Rattle.snap_index.specs.IndexedCalls.{indexed_op};
-ghost use Rattle.snap_json.specs.Calls.{call_json, end_json, entries_in, entry_items, entry_json, op_word, record_json};
-ghost use Rattle.snap_json.specs.Faults.{update_json};
+ghost use Rattle.snap_json.specs.Calls.{call_json, end_json, entries_in, entry_items, entry_json, op_word, record_json, update_json};
 
 use crate::line::Line;
 use snap_core::Entry;

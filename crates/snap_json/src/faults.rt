@@ -8,11 +8,12 @@ ghost use Rattle.snap_core.specs.Calls.{Call, calls_of, views_of};
 ghost use Rattle.snap_core.specs.Events.{event_cap};
 ghost use Rattle.snap_conditions.specs.Tally.{tally_of};
 ghost use Rattle.snap_report.specs.Faults.{side_word};
-ghost use Rattle.snap_witness.specs.Places.{IsViewAt};
+ghost use Rattle.snap_witness.specs.Places.{AreReadAt, IsViewAt};
 ghost use Rattle.snap_json.specs.Faults.{fault_fields, integrity_json, named_json, numbered_json, part_json, proximity_json, read_json, write_json};
 ghost use Rattle.snap_json.specs.Values.{field_tokens};
 
 use crate::call::{put_call, put_entry, put_update};
+use crate::differs::put_differs;
 use crate::line::Line;
 use snap_conditions::{IntegrityFault, Part, ProximityFault, ReadFault, Side, Tally, WriteFault};
 use snap_index::Index;
@@ -119,7 +120,7 @@ impl Told for ProximityFault {
 impl Told for ReadFault {
     ghost json = { read_json };
 
-    ghost is_named = { λ calls f. IsViewAt calls f.view × IsViewAt calls f.other };
+    ghost is_named = { AreReadAt };
 
     fn put(
         &self,
@@ -132,6 +133,8 @@ impl Told for ReadFault {
         line.key("other")?;
         put_call(line, index, records, self.other)?;
         line.number("component", u64::from(self.component))?;
+        line.key("differs")?;
+        put_differs(line, index, records, self)?;
         line.end_object()
     }
 }

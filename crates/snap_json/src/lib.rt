@@ -2,6 +2,7 @@
 #![tactic(auto)]
 
 mod call;
+mod differs;
 mod faults;
 mod law;
 mod line;

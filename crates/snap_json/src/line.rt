@@ -10,6 +10,7 @@ use std::alloc::{AllocError, Global};
 /// A line that is being written.
 #[derive(Drop)]
 pub(crate) struct Line {
+    alloc: Global,
     writer: Writer,
     ghost alone: { writer.before ≡ [] },
 }
@@ -20,8 +21,14 @@ impl Line {
         ensures { result.writer.tokens ≡ [] }
     {
         Line {
+            alloc,
             writer: Writer::new(Vec::new(alloc)),
         }
+    }
+
+    /// What gives the line its memory.
+    pub(crate) fn allocator(&self) -> Global {
+        self.alloc
     }
 
     pub(crate) fn begin_object(&mut self) -> Result<(), AllocError>

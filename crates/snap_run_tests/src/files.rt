@@ -182,7 +182,9 @@ const OBJECTS: &str = "{\"name\":\"none\",\"status\":4,\"trouble\":\"no such fil
     \"view\":{\"call\":2,\"process\":1,\"op\":\"view\",\"begin\":3,\"end\":4,\
     \"entries\":[{\"component\":0,\"number\":1,\"value\":7}]},\
     \"other\":{\"call\":3,\"process\":2,\"op\":\"view\",\"begin\":5,\"end\":6,\"entries\":[]},\
-    \"component\":0},\"write\":null}\n";
+    \"component\":0,\"differs\":[{\"component\":0,\"view_number\":1,\"other_number\":0,\
+    \"update\":{\"call\":1,\"process\":0,\"op\":\"update\",\"begin\":2,\"end\":7,\
+    \"entries\":[{\"component\":0,\"number\":1,\"value\":7}]}}]},\"write\":null}\n";
 
 #[test]
 fn each_name_has_its_object(rt: HostRuntime) -> Result<(), Fail> {

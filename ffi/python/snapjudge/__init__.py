@@ -18,11 +18,11 @@ from __future__ import annotations
 import json
 
 from .library import EVENTS, MOST_EVENTS, STATUSES, NoLimit, TooLittleRoom, answer, answer_into, bytes_of
-from .values import Call, ComponentStats, Counts, Entry, Fault, Judged, Refused, Stats, Step, judged_of, stats_of
+from .values import Call, ComponentStats, Counts, Difference, Entry, Fault, Judged, Refused, Stats, Step, judged_of, stats_of
 
 __version__ = "1.0.0"
-__all__ = ["Refused", "TooLittleRoom", "NoLimit", "Judged", "Counts", "Entry", "Call", "Step", "Fault", "Stats", "ComponentStats",
-           "check", "explain", "shrink", "draw", "stats", "report", "report_into", "EVENTS", "MOST_EVENTS", "STATUSES"]
+__all__ = ["Refused", "TooLittleRoom", "NoLimit", "Judged", "Counts", "Entry", "Call", "Step", "Fault", "Difference", "Stats",
+           "ComponentStats", "check", "explain", "shrink", "draw", "stats", "report", "report_into", "EVENTS", "MOST_EVENTS", "STATUSES"]
 
 # The forms of a picture, by the numbers that the library has for them.
 FORMS = {"page": 0, "svg": 1, "text": 2}

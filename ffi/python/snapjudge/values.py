@@ -54,15 +54,27 @@ class Step:
 
 
 @dataclass(frozen=True)
+class Difference:
+    """A component of which the two views of a read fault show different numbers, 0 for nothing, and the update of the greater one. The
+    update is None if the history has none."""
+
+    component: int
+    view_number: int
+    other_number: int
+    update: Call | None
+
+
+@dataclass(frozen=True)
 class Fault:
     """How many faults of a kind there are, and the first of them: the number of its view, the other words of the report by their names,
-    and the calls that it concerns, by what they are in it."""
+    and the calls that it concerns, by what they are in it. A read fault has where its views differ, too."""
 
     kind: str
     count: int
     view: int
     more: dict
     calls: dict[str, Call]
+    differs: tuple[Difference, ...] = ()
 
 
 @dataclass(frozen=True)
@@ -165,7 +177,8 @@ def _fault(kind, found):
         more = {"other": calls["other"].call, "component": found["component"]}
     else:
         more = {name: found[name] for name in ("component", "number", "side")}
-    return Fault(kind, found["count"], calls["view"].call, more, calls)
+    differs = tuple(Difference(**{**it, "update": _call(it["update"])}) for it in found.get("differs", ()))
+    return Fault(kind, found["count"], calls["view"].call, more, calls, differs)
 
 
 def judged_of(status: str, found: dict, text: bytes, limit: int | None) -> Judged:

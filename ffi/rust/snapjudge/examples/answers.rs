@@ -1,5 +1,5 @@
 //! Answers as the program does, by the crate: ../../../differential.py compares the two.
-use snapjudge::{Answer, Call, ComponentStats, Entry, Error, Fault, Form, Judged, NamedUpdate, Op};
+use snapjudge::{Answer, Call, ComponentStats, Difference, Entry, Error, Fault, Form, Judged, NamedUpdate, Op};
 use snapjudge::{Refusal, Side, Status, Verdict};
 use std::io::{self, BufRead, Read, Write};
 
@@ -142,6 +142,11 @@ fn named(update: &NamedUpdate) -> String {
     format!("{{\"component\":{},\"number\":{},\"update\":{}}}", update.component, update.number, maybe(&update.call))
 }
 
+fn difference(it: &Difference) -> String {
+    let numbers = format!("\"view_number\":{},\"other_number\":{}", it.view_number, it.other_number);
+    format!("{{\"component\":{},{numbers},\"update\":{}}}", it.component, maybe(&it.update))
+}
+
 /// The kind of a fault, and its object.
 fn fault(fault: &Fault) -> (&'static str, String) {
     let (kind, count, view, rest) = match fault {
@@ -153,8 +158,10 @@ fn fault(fault: &Fault) -> (&'static str, String) {
             let front = format!("\"component\":{component},\"number\":{number},\"side\":\"{side}\"");
             ("proximity", count, view, format!("{front},\"update\":{}", maybe(update)))
         }
-        Fault::Read { count, view, other, component } => {
-            ("read", count, view, format!("\"other\":{},\"component\":{component}", call(other)))
+        Fault::Read { count, view, other, component, differs } => {
+            let differs: Vec<String> = differs.iter().map(difference).collect();
+            let front = format!("\"other\":{},\"component\":{component}", call(other));
+            ("read", count, view, format!("{front},\"differs\":[{}]", differs.join(",")))
         }
         Fault::Write { count, view, misses, shows } => {
             ("write", count, view, format!("\"misses\":{},\"shows\":{}", named(misses), named(shows)))

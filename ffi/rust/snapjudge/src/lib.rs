@@ -19,7 +19,7 @@ mod json;
 mod library;
 mod values;
 
-pub use values::{Call, ComponentStats, Counts, Entry, Fault, NamedUpdate, Op, Refusal, Side, Stats, Step};
+pub use values::{Call, ComponentStats, Counts, Difference, Entry, Fault, NamedUpdate, Op, Refusal, Side, Stats, Step};
 
 use json::Json;
 use library::Question;

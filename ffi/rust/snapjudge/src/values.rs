@@ -58,6 +58,15 @@ pub enum Side {
     Early,
 }
 
+/// What the two views of a read fault show of a component, 0 for nothing. The update is the one of the greater number.
+#[derive(Clone, Debug, PartialEq, Eq)]
+pub struct Difference {
+    pub component: u8,
+    pub view_number: u32,
+    pub other_number: u32,
+    pub update: Option<Call>,
+}
+
 /// How many faults of a kind there are, and the first of them.
 #[derive(Clone, Debug, PartialEq, Eq)]
 pub enum Fault {
@@ -65,8 +74,9 @@ pub enum Fault {
     Integrity { count: u64, view: Call, entry: Entry, update: Option<Call> },
     /// The view shows this number, or 0 for nothing. The update is the one that an old view misses, or that an early one shows.
     Proximity { count: u64, view: Call, component: u8, number: u32, side: Side, update: Option<Call> },
-    /// The view shows more of the component than the other, which shows more elsewhere or begins after it.
-    Read { count: u64, view: Call, other: Call, component: u8 },
+    /// The view shows more of the component than the other, which shows more elsewhere or begins after it. The views differ in the
+    /// component, and in the one of which the other shows more.
+    Read { count: u64, view: Call, other: Call, component: u8, differs: Vec<Difference> },
     /// The view shows an update, and misses one that preceded it.
     Write { count: u64, view: Call, misses: NamedUpdate, shows: NamedUpdate },
 }
@@ -162,9 +172,20 @@ fn proximity(json: &Json) -> Option<Fault> {
     })
 }
 
+fn difference(json: &Json) -> Option<Difference> {
+    Some(Difference {
+        component: json.at("component")?.number()?,
+        view_number: json.at("view_number")?.number()?,
+        other_number: json.at("other_number")?.number()?,
+        update: json.at("update")?.unless_null(call)?,
+    })
+}
+
 fn read(json: &Json) -> Option<Fault> {
     let (view, other) = (call(json.at("view")?)?, call(json.at("other")?)?);
-    Some(Fault::Read { count: json.at("count")?.number()?, view, other, component: json.at("component")?.number()? })
+    let component = json.at("component")?.number()?;
+    let differs = json.at("differs")?.items(difference)?;
+    Some(Fault::Read { count: json.at("count")?.number()?, view, other, component, differs })
 }
 
 fn write(json: &Json) -> Option<Fault> {

@@ -1,5 +1,5 @@
 //! The examples of the project, by their reports.
-use snapjudge::{check, report, report_into, Answer, Call, Counts, Entry, Error, Fault, Judge, NamedUpdate};
+use snapjudge::{check, report, report_into, Answer, Call, Counts, Difference, Entry, Error, Fault, Judge, NamedUpdate};
 use snapjudge::{Op, Refusal, RoomError, Side, Status, Step, Verdict};
 use std::path::Path;
 use std::{fs, thread};
@@ -195,6 +195,7 @@ fn faults_of_several_calls_are_taken_apart() {
             view: call(2, 1, (3, 4), Op::View(vec![entry(0, 7)])),
             other: call(3, 2, (5, 6), Op::View(vec![])),
             component: 0,
+            differs: vec![Difference { component: 0, view_number: 1, other_number: 0, update: Some(call(1, 0, (2, 7), Op::Update(entry(0, 7)))) }],
         }]
     );
     let misses = call(2, 0, (3, 4), Op::Update(entry(0, 7)));

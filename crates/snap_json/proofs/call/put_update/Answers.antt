@@ -7,8 +7,7 @@ use Rattle.snap_index.specs.IndexedCalls.{number_of}
 use Rattle.snap_index.proofs.IndexedCalls.{mapped_some}
 use Rattle.snap_index.proofs.Known.{update_found}
 use Rattle.snap_report.proofs.Pieces.{same_text}
-use Rattle.snap_json.specs.Calls.{call_json}
-use Rattle.snap_json.specs.Faults.{update_json}
+use Rattle.snap_json.specs.Calls.{call_json, update_json}
 use Rattle.snap_json.proofs.call.put_update.Goals as goal
 
 pub put_call-requires-clause-below : goal.put_call-requires-clause-below

@@ -3,7 +3,8 @@ use Rattle.json.specs.Token as token
 use Rattle.json.specs.Tree.{json_tokens}
 use Rattle.snap_core.specs.Calls.{calls_of}
 use Rattle.snap_report.proofs.Pieces.{same_text}
-use Rattle.snap_json.specs.Faults.{named_json, update_json}
+use Rattle.snap_json.specs.Calls.{update_json}
+use Rattle.snap_json.specs.Faults.{named_json}
 use Rattle.snap_json.proofs.Values.{six_joined}
 use Rattle.snap_json.proofs.faults.put_named.Goals as goal
 

@@ -5,7 +5,8 @@ use Rattle.snap_core.specs.Calls.{calls_of}
 use Rattle.snap_report.proofs.Pieces.{same_text}
 use Rattle.snap_report.specs.Faults.{side_word}
 use Rattle.snap_witness.specs.Places.{side_number}
-use Rattle.snap_json.specs.Faults.{numbered_json, proximity_json, update_json}
+use Rattle.snap_json.specs.Calls.{update_json}
+use Rattle.snap_json.specs.Faults.{numbered_json, proximity_json}
 use Rattle.snap_json.proofs.Values.{seven_joined}
 use Rattle.snap_json.proofs.faults.ProximityFaultTold.put.Goals as goal
 

@@ -3,8 +3,9 @@ use Rattle.json.specs.Token as token
 use Rattle.json.specs.Tree.{json_tokens}
 use Rattle.snap_core.specs.Calls.{calls_of}
 use Rattle.snap_report.proofs.Pieces.{same_text}
+use Rattle.snap_json.specs.Differs.{differs_json}
 use Rattle.snap_json.specs.Faults.{numbered_json, read_json}
-use Rattle.snap_json.proofs.Values.{five_joined}
+use Rattle.snap_json.proofs.Values.{seven_joined}
 use Rattle.snap_json.proofs.faults.ReadFaultTold.put.Goals as goal
 
 pub returns : goal.returns
@@ -15,7 +16,8 @@ returns c =
     let records = c.args.records.now in
     let f = c.args.self.now in
     same_text c.end_object.result c.end_object.new.self.writer.tokens _ (old ++ json_tokens (read_json records calls c.args.count f))
-    (rw (c.in_ok-number.ensures, c.in_ok-put_call.ensures, c.in_ok-key.ensures, c.in_ok-begin_fault.ensures, c.from.ensures)
-    (five_joined old (token.begin_object ∷ token.key (codes "count") ∷ token.number (decimal c.args.count) ∷ token.key (codes "view") ∷ json_tokens (numbered_json records calls f.view))
-    (token.key (codes "other") ∷ []) (json_tokens (numbered_json records calls f.other)) (token.key (codes "component") ∷ token.number (decimal f.component) ∷ []) (token.end_object ∷ [])))
+    (rw (c.in_ok-put_differs.ensures, c.in_ok-key-2.ensures, c.in_ok-number.ensures, c.in_ok-put_call.ensures, c.in_ok-key.ensures, c.in_ok-begin_fault.ensures, c.from.ensures)
+    (seven_joined old (token.begin_object ∷ token.key (codes "count") ∷ token.number (decimal c.args.count) ∷ token.key (codes "view") ∷ json_tokens (numbered_json records calls f.view))
+    (token.key (codes "other") ∷ []) (json_tokens (numbered_json records calls f.other)) (token.key (codes "component") ∷ token.number (decimal f.component) ∷ [])
+    (token.key (codes "differs") ∷ []) (json_tokens (differs_json records calls f)) (token.end_object ∷ [])))
     c.end_object.ensures
