@@ -30,8 +30,10 @@ it makes
 
     regular, and not atomic
     read: view 2 shows more of component 0 than view 3, and had ended before that view began
+      view 2 shows 0:1; view 3 shows 0:0
       call 2 of process 1, records 3 and 4: view 0:1:7
       call 3 of process 2, records 5 and 6: view
+      call 1 of process 0, records 2 and 7: update 0:1:7
 
 Of an atomic history the lines of its calls stand in an order that explains each view. Of a
 text that is no history the rule that is broken is told, and the record that breaks it.
