@@ -12,7 +12,7 @@ use Rattle.snap_conditions.specs.declared.tally.Tally.{Tally}
 use Rattle.snap_theory.specs.Faults.{first_of, integrity_faults, write_faults}
 use Rattle.snap_conditions.specs.Tally.{reported_integrity, reported_write, tally_of}
 use Rattle.snap_index.proofs.IndexedCalls.{mapped_some}
-use Rattle.snap_witness.specs.Places.{IsViewAt}
+use Rattle.snap_witness.specs.Places.{AreReadAt, IsViewAt}
 use Rattle.snap_theory.specs.FaultWitnesses.{Integrity, Write}
 use Rattle.snap_theory.specs.First.{first_integrity, first_write}
 use Rattle.snap_theory.proofs.First.{integrity_is, write_is}
@@ -31,7 +31,7 @@ proximity_is_named es h t whole first e = λ f is.
     let named = proximity_named es h f (sym (proximity_told (calls_of es) t whole) ∙ sym e ∙ is) in
     (named.view, named.small)
 
-pub read_is_named : (es : List Event) → IsBoundedHistory es → (t : Tally) → t ≡ tally_of (calls_of es) (views_of (calls_of es)) → (first : Option ReadFault) → first ≡ t.read.first → ForSome first (λ f. IsViewAt (calls_of es) f.view × IsViewAt (calls_of es) f.other)
+pub read_is_named : (es : List Event) → IsBoundedHistory es → (t : Tally) → t ≡ tally_of (calls_of es) (views_of (calls_of es)) → (first : Option ReadFault) → first ≡ t.read.first → ForSome first (AreReadAt (calls_of es))
 read_is_named es h t whole first e = λ f is.
     let named = read_named es h f (sym (read_told (calls_of es) t whole) ∙ sym e ∙ is) in
     (named.view, named.other)

@@ -99,8 +99,10 @@ fn push_excess(
     Ok(())
 }
 
-// The updates that show a read fault.
-fn read_updates(
+/// The updates that show the read fault of two views, each by its component and its number. The first is what the view shows of the
+/// least component of which it shows more than the other. If the view does not precede the other, the second is what the other shows
+/// of the least component of which that one shows more. Both views must be completed. The error is lack of memory.
+pub fn read_updates(
     alloc: Global,
     index: &Index<'_>,
     view: u32,
