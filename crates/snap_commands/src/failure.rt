@@ -1,6 +1,5 @@
 //! Why a command has no exit status of its own.
 use crate::outlet::Outlet;
-
 use snap_check::RunFault;
 use snap_words::JobFault;
 use std::alloc::AllocError;

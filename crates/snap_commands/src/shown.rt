@@ -1,6 +1,5 @@
 //! Whether the answers of a check have colours, and whether a line shows the progress.
 use crate::progress::Progress;
-
 use snap_words::{Color, Options};
 use std::env;
 use std::env::VarError;

@@ -105,9 +105,7 @@ pub fn sum_all<Rt: Threads + Sync, O: Opener, W: Write, E: Write, G: Gate>(
     ensures some { IfErr result (λ _. SumsSome (O.opens opener.now) check names.now (W.contents (inner_of writer.old)) (W.contents (inner_of writer.new))) }
     ensures counts { RunCounts 0 0 (failures_in writer.old) (failures_in writer.new) result }
 {
-    let sums = sums_of(
-        rt, alloc, opener, names, errors, cutting, gate, check,
-    )?;
+    let sums = sums_of(rt, alloc, opener, names, errors, cutting, gate, check)?;
     let text = sums.text(alloc, names)?;
     if writer.send(&text).is_err() {
         return Err(RunFault::Write);

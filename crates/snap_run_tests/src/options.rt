@@ -255,7 +255,12 @@ fn the_program_lets_one_worker_judge_a_short_text(rt: HostRuntime) -> Result<(),
 }
 
 // Whether one worker, for whom 8 pieces of a long text are asked for, draws a piece of this number.
-fn draws<Rt: Threads + Sync>(rt: &Rt, alloc: Global, finer: bool, piece: u32) -> Result<bool, Fail> {
+fn draws<Rt: Threads + Sync>(
+    rt: &Rt,
+    alloc: Global,
+    finer: bool,
+    piece: u32,
+) -> Result<bool, Fail> {
     let gate = Meeting::of(1, piece);
     let cutting = cutting(8, 1)?;
     meets(rt, alloc, chosen(finer), SHARED_FROM, cutting, &gate)
