@@ -1,7 +1,6 @@
 -- What is answered of whole texts.
-use Rattle.std.proofs.Common.{◌≡◌, ◌≢◌, ◌⊎◌, ◌++◌, ◌∷◌, ◌∙◌, ap, append_assoc, ℕ, Bool, true, false, List, [], Option, Some, None, Result, Ok, Err, flat_map, subst, sym, refl, inl, inr}
+use Rattle.std.proofs.Common.{◌≡◌, ◌≢◌, ◌⊎◌, ◌<◌, ◌++◌, ◌∷◌, ◌∙◌, ap, append_assoc, ℕ, Bool, true, false, List, [], Option, Some, None, Result, Ok, Err, flat_map, subst, sym, refl, inl, inr}
 use Rattle.std.specs.Prelude.{IfOk, IfSome, IsTrue, ◌↔◌}
-use Rattle.std.specs.Bool.{then_some}
 use Rattle.snap_core.specs.declared.event.Event.{Event}
 use Rattle.snap_format.specs.Rows.{rows_of}
 use Rattle.std.specs.Io.KnownBytes.{Appends}
@@ -31,10 +30,10 @@ says_all f {least} {most} {earlier} {last} {events} h begun = record { before = 
     go (inl (unheaded, none, nothing)) (inr some) = absurd (some none)
     go (inr (headed, spells)) some = inl spells
 
--- what is so of a value is so of an answer that has it
-pub if_then_some : {A : Type 0} (P : A → Type 0) (is_answered : Bool) (x : A) → P x → IfSome (then_some is_answered x) P
-if_then_some P true x p = p
-if_then_some P false x p = tt
+-- what is so of a value is so of an answer that is that value
+pub if_same : {A : Type 0} (P : A → Type 0) (answer : Option A) (x : A) → IfSome answer (λ y. y ≡ x) → P x → IfSome answer P
+if_same P None x same p = tt
+if_same P (Some y) x same p = subst P (sym same) p
 
 -- the status of one that was read
 abbrev pub IsStatusBy : Course → ℕ → Type 0
@@ -63,11 +62,11 @@ whole_answer asked left course gone (Ok followed) done rest status = whole_by as
 whole_answer asked left course gone (Err e) done rest status = tt
 
 -- the lines of all windows were written, and the sums
-abbrev pub TellsAfter : Course → Option (List ℕ) → Option (List ℕ) → Type 0
-TellsAfter course old new = (gone : List ℕ) (least most : ℕ) (texts : List (List (List ℕ))) (lines : List (List ℕ)) (events : List Event) → HasJudged course.follow course.answers gone least most texts lines events → TellsRest old new gone least (texts ++ lines ∷ []) events
+abbrev pub TellsAfter : Course → ℕ → Option ℕ → Option (List ℕ) → Option (List ℕ) → Type 0
+TellsAfter course views code old new = (gone : List ℕ) (least most : ℕ) (texts : List (List (List ℕ))) (lines : List (List ℕ)) (events : List Event) → HasJudged course.follow course.answers gone least most texts lines events → TellsRest old new gone least (texts ++ lines ∷ []) events views code
 
 written_by : (asked : FollowOptions) (left : Option (List (List ℕ))) (course : Course) (gone : List ℕ) (followed : Followed) (old mid new : Option (List ℕ)) → Appends old mid gone → IfSome left (IsDone course asked.until gone asked.least asked.most.events) →
-    (IsTrue followed.has_rest ↔ (course.rest.items ≢ [])) → TellsAfter course mid new → IfSome left (λ all. AreWritten asked all followed old new)
+    (IsTrue followed.has_rest ↔ (course.rest.items ≢ [])) → TellsAfter course asked.views followed.code mid new → IfSome left (λ all. AreWritten asked all followed old new)
 written_by asked None course gone followed old mid new sent done rest tells = tt
 written_by asked (Some all) course gone followed old mid new sent done rest tells = λ _.
     let last = tells gone asked.least asked.most.events done.earlier done.last done.events done.judged in
@@ -77,10 +76,11 @@ written_by asked (Some all) course gone followed old mid new sent done rest tell
       told = last.told;
       windows = last.windows;
       wrote = subst (Appends old new) last.all (Appends-trans old mid new gone last.out sent last.sent);
+      few = last.few;
     })
 
 pub written_answer : {E : Type 0} (asked : FollowOptions) (left : Option (List (List ℕ))) (course : Course) (gone : List ℕ) (result : Result Followed E) (old mid new : Option (List ℕ)) → Appends old mid gone → IfSome left (IsDone course asked.until gone asked.least asked.most.events) →
-    IfOk result (λ followed. IsTrue followed.has_rest ↔ (course.rest.items ≢ [])) → IfOk result (λ _. TellsAfter course mid new) → IfOk result (λ followed. IfSome left (λ all. AreWritten asked all followed old new))
+    IfOk result (λ followed. IsTrue followed.has_rest ↔ (course.rest.items ≢ [])) → IfOk result (λ followed. TellsAfter course asked.views followed.code mid new) → IfOk result (λ followed. IfSome left (λ all. AreWritten asked all followed old new))
 written_answer asked left course gone (Ok followed) old mid new sent done rest tells = written_by asked left course gone followed old mid new sent done rest tells
 written_answer asked left course gone (Err e) old mid new sent done rest tells = tt
 
@@ -109,12 +109,13 @@ unwritten_answer asked left stop (Ok followed) old new stops is = unwritten_by a
 unwritten_answer asked left stop (Err e) old new stops is = tt
 
 -- what was to be written, and the sums
-pub rest_told : (answers : Answers) (old new : Option (List ℕ)) (gone : List ℕ) (least : ℕ) (texts : List (List (List ℕ))) (events : List Event) → HasToldAll answers gone least texts events →
-    ((told : List Told) → AreSums told answers.sums → Appends old new (answers.lines ++ sums_text told)) → TellsRest old new gone least texts events
-rest_told answers old new gone least texts events h wrote = record {
+pub rest_told : (answers : Answers) (old new : Option (List ℕ)) (gone : List ℕ) (least : ℕ) (texts : List (List (List ℕ))) (events : List Event) (views : ℕ) (code : Option ℕ) → HasToldAll answers gone least texts events →
+    ((told : List Told) → AreSums told answers.sums → Appends old new (answers.lines ++ sums_text told)) → (code ≡ None ↔ answers.sums.views < views) → TellsRest old new gone least texts events views code
+rest_told answers old new gone least texts events views code h wrote few = record {
   told = h.told;
   windows = h.windows;
   out = answers.lines ++ sums_text h.told;
   sent = wrote h.told h.answered.sums_are;
   all = sym (append_assoc gone answers.lines (sums_text h.told)) ∙ ap (λ z. z ++ sums_text h.told) h.answered.written;
+  few = subst (λ z. code ≡ None ↔ z < views) h.answered.sums_are.views_are few;
 }

@@ -1,5 +1,5 @@
 -- What a recording says with one line more, or with one text more.
-use Rattle.std.proofs.Common.{◌≡◌, ◌≤◌, ◌+◌, ◌-◌, ◌^◌, min, ℕ, Bool, true, false, cond, if◌then◌else◌, List, [], ◌∷◌, ◌++◌, length, length-append, arith, append_assoc, append-nil, map, flat_map, Result, Ok, Err, refl, sym, ap, ◌∙◌, subst, inl, inr}
+use Rattle.std.proofs.Common.{◌≡◌, ◌≤◌, ◌+◌, ◌-◌, ◌^◌, min, ℕ, Bool, true, false, cond, if◌then◌else◌, List, [], ◌∷◌, ◌++◌, length, length-append, arith, append_assoc, append-nil, map, flat_map, None, Result, Ok, Err, refl, sym, ap, ◌∙◌, subst, inl, inr}
 use Rattle.std.specs.Prelude.{OnOk, count_by}
 use Rattle.std.proofs.lemmas.Bool.{false≢true}
 use Rattle.std.proofs.lemmas.List.{map-append}
@@ -13,10 +13,12 @@ use Rattle.snap_text.specs.Fields.{Fields, row_event}
 use Rattle.snap_windows.specs.Taken.{HasTaken}
 use Rattle.snap_follow.specs.declared.follow.Follow.{Follow}
 use Rattle.snap_follow.specs.Followed.{AllSpell, EndsText, HasRead, IsNext, IsPlaceOf, ReadsLine, SaysSoFar, Spells, open_after}
+use Rattle.snap_follow.specs.Misses.{AreMissed, MissesNext}
 use Rattle.snap_follow.specs.Places.{IsPlaceOfEvent, IsSpanIn, record_count}
 use Rattle.snap_follow.specs.Spans.{HasOneMore, IsSpanOf, ends_view}
 use Rattle.snap_follow.specs.declared.follow.Place.{Place}
 use Rattle.snap_follow.specs.inside.Counts.{CountsOpen}
+use Rattle.snap_follow.proofs.Missing.{missed_grown, missed_more, none_missed}
 use Rattle.snap_follow.proofs.Opening.{open_more}
 use Rattle.snap_follow.proofs.Placing.{place_behind, place_grown, place_now, span_grown, span_of_none, span_with, spells_length}
 
@@ -50,9 +52,9 @@ same_open f g events same opened = rw (append-nil events, same) opened
 
 -- what was read, with another state of the same judge, one line more, and what all lines of the text then say
 with_line : (f g : Follow) (least most : ℕ) (texts : List (List (List ℕ))) (lines : List (List ℕ)) (line : List ℕ) (events more : List Event) (h : HasRead f least most texts lines events) →
-    KeepsRule f g → IsSpanOf g.span (h.since ++ more) → IsSpanIn g.span (texts ++ (lines ++ line ∷ []) ∷ []) (length h.before) (length (h.since ++ more)) → g.open_calls ≤ open_after (events ++ more) → HasTaken g.judge h.before (h.since ++ more) → SaysSoFar g (lines ++ line ∷ []) (h.here ++ more) → IsPlaceOf g.place texts (lines ++ line ∷ []) →
+    KeepsRule f g → IsSpanOf g.span (h.since ++ more) → IsSpanIn g.span (texts ++ (lines ++ line ∷ []) ∷ []) (length h.before) (length (h.since ++ more)) → AreMissed (texts ++ (lines ++ line ∷ []) ∷ []) h.before (h.since ++ more) g.span.missed → g.open_calls ≤ open_after (events ++ more) → HasTaken g.judge h.before (h.since ++ more) → SaysSoFar g (lines ++ line ∷ []) (h.here ++ more) → IsPlaceOf g.place texts (lines ++ line ∷ []) →
     (n : HasRead g least most texts (lines ++ line ∷ []) (events ++ more)) × (n.before ≡ h.before) × (n.since ≡ h.since ++ more)
-with_line f g least most texts lines line events more h keeps span place_of opened taken says place = (
+with_line f g least most texts lines line events more h keeps span place_of missed opened taken says place = (
   record {
     least_is = keeps.0 ∙ h.least_is;
     most_is = ap (λ z. z.events) keeps.1 ∙ h.most_is;
@@ -63,6 +65,7 @@ with_line f g least most texts lines line events more h keeps span place_of open
     windows = ap (λ z. z ++ more) h.windows ∙ append_assoc h.before h.since more;
     span_is = span;
     span_in = place_of;
+    missed = missed;
     earlier = h.earlier;
     here = h.here ++ more;
     parts = ap (λ z. z ++ more) h.parts ∙ append_assoc h.earlier h.here more;
@@ -99,13 +102,20 @@ same_places f g texts lines line before since same h =
     (subst (λ z. IsSpanIn z (texts ++ (lines ++ line ∷ []) ∷ []) (length before) (length since)) (sym same)
     (span_grown f.span (texts ++ lines ∷ []) (texts ++ (lines ++ line ∷ []) ∷ []) (length before) (length since) (place_grown texts lines (line ∷ [])) h))
 
+same_missed : (f g : Follow) (texts : List (List (List ℕ))) (lines : List (List ℕ)) (line : List ℕ) (before since : List Event) → g.span ≡ f.span → AreMissed (texts ++ lines ∷ []) before since f.span.missed →
+    AreMissed (texts ++ (lines ++ line ∷ []) ∷ []) before (since ++ []) g.span.missed
+same_missed f g texts lines line before since same h =
+    subst (λ z. AreMissed (texts ++ (lines ++ line ∷ []) ∷ []) before z g.span.missed) (sym (append-nil since))
+    (subst (λ z. AreMissed (texts ++ (lines ++ line ∷ []) ∷ []) before since z.missed) (sym same)
+    (missed_grown (texts ++ lines ∷ []) (texts ++ (lines ++ line ∷ []) ∷ []) before since f.span.missed (place_grown texts lines (line ∷ [])) h))
+
 -- the same judge has taken no event more
 same_judge : (f g : Follow) (before since : List Event) → g.judge ≡ f.judge → HasTaken f.judge before since → HasTaken g.judge before (since ++ [])
 same_judge f g before since same taken = subst (λ z. HasTaken z before (since ++ [])) (sym same) (subst (λ z. HasTaken f.judge before z) (sym (append-nil since)) taken)
 
 -- a line without a record
 pub nothing_more : (f g : Follow) (line : List ℕ) → g.judge ≡ f.judge → g.span ≡ f.span → g.least ≡ f.least → g.open_calls ≡ f.open_calls → g.headed ≡ f.headed → g.place ≡ f.place → rows_of line ≡ [] → ReadsLine f g line
-nothing_more f g line same span_same least_same calls_same headed place_same none least most texts lines events h = let n = with_line f g least most texts lines line events [] h (least_same, ap (λ z. z.most) same) (same_span f g h.since span_same h.span_is) (same_places f g texts lines line h.before h.since span_same h.span_in) (same_open f g events calls_same h.opened) (same_judge f g h.before h.since same h.taken) (go h.lines_say) (place_stays f g texts lines line place_same none h.place_is) in ([], omega arith, n.0, n.1, n.2)
+nothing_more f g line same span_same least_same calls_same headed place_same none least most texts lines events h = let n = with_line f g least most texts lines line events [] h (least_same, ap (λ z. z.most) same) (same_span f g h.since span_same h.span_is) (same_places f g texts lines line h.before h.since span_same h.span_in) (same_missed f g texts lines line h.before h.since span_same h.missed) (same_open f g events calls_same h.opened) (same_judge f g h.before h.since same h.taken) (go h.lines_say) (place_stays f g texts lines line place_same none h.place_is) in ([], omega arith, n.0, n.1, n.2)
   where
     rows : flat_map rows_of (lines ++ line ∷ []) ≡ flat_map rows_of lines
     rows = rows_more lines line ∙ ap (λ z. flat_map rows_of lines ++ z) none ∙ append-nil (flat_map rows_of lines)
@@ -116,7 +126,7 @@ nothing_more f g line same span_same least_same calls_same headed place_same non
 
 -- the header
 pub header_read : (f g : Follow) (line : List ℕ) (first : Fields) → f.headed ≡ false → g.headed ≡ true → g.judge ≡ f.judge → g.span ≡ f.span → g.least ≡ f.least → g.open_calls ≡ f.open_calls → IsNext f.place g.place → rows_of line ≡ first ∷ [] → is_header_row first ≡ true → ReadsLine f g line
-header_read f g line first old new same span_same least_same calls_same next rows header least most texts lines events h = let n = with_line f g least most texts lines line events [] h (least_same, ap (λ z. z.most) same) (same_span f g h.since span_same h.span_is) (same_places f g texts lines line h.before h.since span_same h.span_in) (same_open f g events calls_same h.opened) (same_judge f g h.before h.since same h.taken) (go h.lines_say) (place_next f g texts lines line first next rows h.place_is) in ([], omega arith, n.0, n.1, n.2)
+header_read f g line first old new same span_same least_same calls_same next rows header least most texts lines events h = let n = with_line f g least most texts lines line events [] h (least_same, ap (λ z. z.most) same) (same_span f g h.since span_same h.span_is) (same_places f g texts lines line h.before h.since span_same h.span_in) (same_missed f g texts lines line h.before h.since span_same h.missed) (same_open f g events calls_same h.opened) (same_judge f g h.before h.since same h.taken) (go h.lines_say) (place_next f g texts lines line first next rows h.place_is) in ([], omega arith, n.0, n.1, n.2)
   where
     go : SaysSoFar f lines h.here → SaysSoFar g (lines ++ line ∷ []) (h.here ++ [])
     go (inl p) = inr (
@@ -137,8 +147,8 @@ read_history f h = subst IsHistory (sym h.windows) h.taken.history
 
 -- an event
 pub event_read : (f g : Follow) (line : List ℕ) (row : Fields) (x : Event) → f.headed ≡ true → g.headed ≡ f.headed → rows_of line ≡ row ∷ [] → row_event row ≡ Ok x →
-    KeepsRule f g → IsNext f.place g.place → CountsOpen f.open_calls x g.open_calls → HasOneMore f.span x g.place g.span → ((before since : List Event) → HasTaken f.judge before since → HasTaken g.judge before (since ++ x ∷ [])) → ReadsLine f g line
-event_read f g line row x old headed rows event keeps next counts one taken least most texts lines events h = let n = with_line f g least most texts lines line events (x ∷ []) h keeps (span_more f g h.since x g.place one h.span_is) places (open_more events x f.open_calls g.open_calls (read_history f h) h.opened counts) (taken h.before h.since h.taken) (go h.lines_say) (place_next f g texts lines line row next rows h.place_is) in (x ∷ [], omega arith, n.0, n.1, n.2)
+    KeepsRule f g → IsNext f.place g.place → CountsOpen f.open_calls x g.open_calls → HasOneMore f.span x g.place g.span → MissesNext f.judge x f.span.missed g.place g.span.missed → ((before since : List Event) → HasTaken f.judge before since → HasTaken g.judge before (since ++ x ∷ [])) → ReadsLine f g line
+event_read f g line row x old headed rows event keeps next counts one misses taken least most texts lines events h = let n = with_line f g least most texts lines line events (x ∷ []) h keeps (span_more f g h.since x g.place one h.span_is) places missed (open_more events x f.open_calls g.open_calls (read_history f h) h.opened counts) (taken h.before h.since h.taken) (go h.lines_say) (place_next f g texts lines line row next rows h.place_is) in (x ∷ [], omega arith, n.0, n.1, n.2)
   where
     next_place : IsPlaceOf g.place texts (lines ++ line ∷ [])
     next_place = place_next f g texts lines line row next rows h.place_is
@@ -158,6 +168,10 @@ event_read f g line row x old headed rows event keeps next counts one taken leas
 
     now : IsPlaceOfEvent (texts ++ (lines ++ line ∷ []) ∷ []) (length h.before + length (h.since ++ x ∷ [])) g.place
     now = place_now texts (lines ++ line ∷ []) h.earlier h.here (length h.before + length (h.since ++ x ∷ [])) g.place h.texts_say (count h.lines_say) (omega (arith, all_is, longer)) next_place
+
+    missed : AreMissed (texts ++ (lines ++ line ∷ []) ∷ []) h.before (h.since ++ x ∷ []) g.span.missed
+    missed = missed_more f.judge (texts ++ lines ∷ []) (texts ++ (lines ++ line ∷ []) ∷ []) h.before h.since x g.place f.span.missed g.span.missed h.taken misses (place_grown texts lines (line ∷ []))
+        (place_now texts (lines ++ line ∷ []) h.earlier h.here (length h.before + length h.since + 1) g.place h.texts_say (count h.lines_say) (omega (arith, all_is)) next_place) h.missed
 
     places : IsSpanIn g.span (texts ++ (lines ++ line ∷ []) ∷ []) (length h.before) (length (h.since ++ x ∷ []))
     places = span_with f.span g.span x g.place (texts ++ lines ∷ []) (texts ++ (lines ++ line ∷ []) ∷ []) (length h.before) h.since (h.since ++ x ∷ []) one (place_grown texts lines (line ∷ [])) h.span_is.events_are longer now h.span_in
@@ -195,6 +209,8 @@ text_ended f g old new same span_same least_same calls_same next none least most
     span_is = subst (λ z. IsSpanOf z h.since) (sym span_same) h.span_is;
     span_in = subst (λ z. IsSpanIn z ((texts ++ lines ∷ []) ++ [] ∷ []) (length h.before) (length h.since)) (sym span_same)
         (span_grown f.span (texts ++ lines ∷ []) ((texts ++ lines ∷ []) ++ [] ∷ []) (length h.before) (length h.since) (place_behind (texts ++ lines ∷ []) ([] ∷ [])) h.span_in);
+    missed = subst (λ z. AreMissed ((texts ++ lines ∷ []) ++ [] ∷ []) h.before h.since z.missed) (sym span_same)
+        (missed_grown (texts ++ lines ∷ []) ((texts ++ lines ∷ []) ++ [] ∷ []) h.before h.since f.span.missed (place_behind (texts ++ lines ∷ []) ([] ∷ [])) h.missed);
     earlier = h.earlier ++ h.here;
     here = [];
     parts = h.parts ∙ sym (append-nil (h.earlier ++ h.here));
@@ -214,10 +230,10 @@ text_ended f g old new same span_same least_same calls_same next none least most
     go (inr q) = q.1
 
 -- a window has ended
-pub window_ended : (f g : Follow) → g.headed ≡ f.headed → g.place ≡ f.place → IsSpanOf g.span [] → KeepsRule f g → g.open_calls ≡ f.open_calls → ((before since : List Event) → HasTaken f.judge before since → HasTaken g.judge (before ++ since) []) →
+pub window_ended : (f g : Follow) → g.headed ≡ f.headed → g.place ≡ f.place → IsSpanOf g.span [] → g.span.missed ≡ None → KeepsRule f g → g.open_calls ≡ f.open_calls → ((before since : List Event) → HasTaken f.judge before since → HasTaken g.judge (before ++ since) []) →
     (least most : ℕ) (texts : List (List (List ℕ))) (lines : List (List ℕ)) (events : List Event) (h : HasRead f least most texts lines events) →
     (n : HasRead g least most texts lines events) × (n.before ≡ h.before ++ h.since) × (n.since ≡ [])
-window_ended f g headed place_same span keeps calls_same ends least most texts lines events h = (
+window_ended f g headed place_same span none keeps calls_same ends least most texts lines events h = (
   record {
     least_is = keeps.0 ∙ h.least_is;
     most_is = ap (λ z. z.events) keeps.1 ∙ h.most_is;
@@ -228,6 +244,7 @@ window_ended f g headed place_same span keeps calls_same ends least most texts l
     windows = h.windows ∙ sym (append-nil (h.before ++ h.since));
     span_is = span;
     span_in = span_of_none g.span (texts ++ lines ∷ []) (length (h.before ++ h.since));
+    missed = subst (AreMissed (texts ++ lines ∷ []) (h.before ++ h.since) []) (sym none) (none_missed (texts ++ lines ∷ []) (h.before ++ h.since));
     earlier = h.earlier;
     here = h.here;
     parts = h.parts;
@@ -243,7 +260,7 @@ window_ended f g headed place_same span keeps calls_same ends least most texts l
     says (inl p) = inl (headed ∙ p.0, p.1, p.2)
     says (inr q) = inr (headed ∙ q.0, q.1)
 
--- what an answer that is given says three times
-pub on_all : {X E : Type 0} (r : Result X E) (A B C D : Type 0) → OnOk r A → OnOk r B → OnOk r C → (A → B → C → D) → OnOk r D
-on_all (Ok x) A B C D a b c f = f a b c
-on_all (Err e) A B C D a b c f = tt
+-- what an answer that is given says in four parts
+pub on_all : {X E : Type 0} (r : Result X E) (A B C D F : Type 0) → OnOk r A → OnOk r B → OnOk r C → OnOk r D → (A → B → C → D → F) → OnOk r F
+on_all (Ok x) A B C D F a b c d f = f a b c d
+on_all (Err e) A B C D F a b c d f = tt

@@ -9,7 +9,9 @@ use Rattle.snap_follow.specs.declared.course.Course.{Course}
 use Rattle.snap_follow.specs.declared.follow.Follow.{Follow}
 use Rattle.snap_follow.specs.declared.follow.Window.{Window}
 use Rattle.snap_follow.specs.Followed.{HasRead, IsInTime, ReadsLine}
+use Rattle.snap_follow.specs.Misses.{AreMissed}
 use Rattle.snap_follow.specs.Places.{IsSpanIn}
+use Rattle.snap_follow.proofs.Missing.{missed_grown}
 use Rattle.snap_follow.specs.Spans.{IsSpanOf, stop}
 use Rattle.snap_follow.proofs.Placing.{Grows, place_grown, snoc_cases, span_grown}
 use Rattle.snap_follow.specs.Windows.{EndsFirst, HasEnded, IsToldAfter, Told, events_of}
@@ -77,11 +79,12 @@ events_more told t before since b s = flat_map-append (λ x. x.events) told (t �
 
 -- what is so of a window that was found is so of it where it was written
 told_after : (least : ℕ) (texts : List (List (List ℕ))) (told : List Told) (t : Told) (before since : List Event) (window : Window) → t.window ≡ window → t.events ≡ since → t.number ≡ stop (length told + 1) → events_of told ≡ before →
-    IsSpanOf window.span since → IsSpanIn window.span texts (length before) (length since) → IsVerdict window.verdict before since → EndsFirst least before since → (0 < least → since ≢ []) → IsToldAfter least texts told t
-told_after least texts told t before since window w e n b span places verdict first some = record {
+    IsSpanOf window.span since → IsSpanIn window.span texts (length before) (length since) → AreMissed texts before since window.span.missed → IsVerdict window.verdict before since → EndsFirst least before since → (0 < least → since ≢ []) → IsToldAfter least texts told t
+told_after least texts told t before since window w e n b span places missed verdict first some = record {
   number = n;
   span = subst (λ z. IsSpanOf z.span t.events) (sym w) (subst (IsSpanOf window.span) (sym e) span);
   places = subst (λ z. IsSpanIn z.span texts (length (events_of told)) (length t.events)) (sym w) (subst (λ z. IsSpanIn window.span texts (length z) (length t.events)) (sym b) (subst (λ z. IsSpanIn window.span texts (length before) (length z)) (sym e) places));
+  missed = subst (λ z. AreMissed texts (events_of told) t.events z.span.missed) (sym w) (subst (λ z. AreMissed texts z t.events window.span.missed) (sym b) (subst (λ z. AreMissed texts before z window.span.missed) (sym e) missed));
   verdict = subst (λ z. IsVerdict z.verdict (events_of told) t.events) (sym w) (subst (λ z. IsVerdict window.verdict z t.events) (sym b) (subst (IsVerdict window.verdict before) (sym e) verdict));
   first = subst (λ z. EndsFirst least z t.events) (sym b) (subst (EndsFirst least before) (sym e) first);
   some = λ lt none. some lt (sym e ∙ none);
@@ -89,15 +92,15 @@ told_after least texts told t before since window w e n b span places verdict fi
 
 -- a window that has ended was answered
 window_told : (a b : Answers) (gone : List ℕ) (least : ℕ) (texts : List (List (List ℕ))) (before since : List Event) (window : Window) → HasTold a gone least texts before → AddsWindow a b window →
-    IsSpanOf window.span since → IsSpanIn window.span texts (length before) (length since) → IsVerdict window.verdict before since → EndsFirst least before since → HasEnded least before since → HasTold b gone least texts (before ++ since)
-window_told a b gone least texts before since window h adds span places verdict first ended =
+    IsSpanOf window.span since → IsSpanIn window.span texts (length before) (length since) → AreMissed texts before since window.span.missed → IsVerdict window.verdict before since → EndsFirst least before since → HasEnded least before since → HasTold b gone least texts (before ++ since)
+window_told a b gone least texts before since window h adds span places missed verdict first ended =
     let next = adds gone h.told since span h.answered in
     record {
       told = h.told ++ next.0 ∷ [];
       answered = next.4;
       all = events_more h.told next.0 before since h.all next.2;
       each = each_more (λ front x. IsToldAfter least texts front x) h.told next.0 h.each
-          (told_after least texts h.told next.0 before since window next.1 next.2 next.3 h.all span places verdict first (λ some none. omega (arith, ended.0, some, ap length none)));
+          (told_after least texts h.told next.0 before since window next.1 next.2 next.3 h.all span places missed verdict first (λ some none. omega (arith, ended.0, some, ap length none)));
       ended = each_more (λ front x. HasEnded least (events_of front) x.events) h.told next.0 h.ended
           (subst (λ z. HasEnded least z next.0.events) (sym h.all) (subst (HasEnded least before) (sym next.2) ended));
     }
@@ -114,6 +117,7 @@ told_grown a gone least all new before grows h = record {
         number = was.number;
         span = was.span;
         places = span_grown t.window.span all new (length (events_of front)) (length t.events) grows was.places;
+        missed = missed_grown all new (events_of front) t.events t.window.span.missed grows was.missed;
         verdict = was.verdict;
         first = was.first;
         some = was.some;
@@ -152,7 +156,7 @@ cut_then c d g line window reads ends verdict enough span adds gone least most t
         first = subst (EndsFirst least next.0.before) (sym next.2) (none_first least next.0.before);
         told = subst (HasTold d.answers gone least all) (sym next.1)
             (window_told c.answers d.answers gone least all r.before r.since window (subst (HasTold c.answers gone least all) (sym read.3) told) adds
-            (subst (λ z. IsSpanOf z r.since) (sym span) r.span_is) (subst (λ z. IsSpanIn z all (length r.before) (length r.since)) (sym span) r.span_in)
+            (subst (λ z. IsSpanOf z r.since) (sym span) r.span_is) (subst (λ z. IsSpanIn z all (length r.before) (length r.since)) (sym span) r.span_in) (subst (λ z. AreMissed all r.before r.since z.missed) (sym span) r.missed)
             (verdict least most texts (lines ++ line ∷ []) (events ++ read.0) r) first
             (enough least most texts (lines ++ line ∷ []) (events ++ read.0) r, subst IsQuiet next.1 next.0.taken.quiet));
       },
@@ -211,7 +215,7 @@ all_told f a b window span verdict adds gone least most texts lines events h = g
           windows = record {
             all = events_more h.told.told next.0 h.read.before h.read.since h.told.all next.2 ∙ sym h.read.windows;
             each = each_more (λ front x. IsToldAfter least (texts ++ lines ∷ []) front x) h.told.told next.0 h.told.each
-                (told_after least (texts ++ lines ∷ []) h.told.told next.0 h.read.before h.read.since window next.1 next.2 next.3 h.told.all spans places (verdict least most texts lines events h.read) h.first
+                (told_after least (texts ++ lines ∷ []) h.told.told next.0 h.read.before h.read.since window next.1 next.2 next.3 h.told.all spans places (subst (λ z. AreMissed (texts ++ lines ∷ []) h.read.before h.read.since z.missed) (sym span) h.read.missed) (verdict least most texts lines events h.read) h.first
                 (λ lt none. omega (arith, some, spans.events_are, ap length none)));
             ended = each_but_last (λ front x. HasEnded least (events_of front) x.events) h.told.told next.0 h.told.ended;
           };

@@ -9,6 +9,7 @@ use Rattle.snap_core.specs.Regular.{IsRegular}
 use Rattle.snap_format.specs.Layout.{is_header_row}
 use Rattle.snap_format.specs.Rows.{rows_of}
 use Rattle.snap_text.specs.Fields.{Fields, row_event}
+use Rattle.snap_follow.specs.Misses.{AreMissed}
 use Rattle.snap_follow.specs.Places.{IsSpanIn}
 use Rattle.snap_follow.specs.Spans.{IsSpanOf}
 use Rattle.snap_follow.specs.declared.follow.Ended.{Ended}
@@ -64,6 +65,7 @@ pub record HasRead (follow : Follow) (least most : ℕ) (texts : List (List (Lis
   pub windows : events ≡ before ++ since
   pub span_is : IsSpanOf follow.span since
   pub span_in : IsSpanIn follow.span (texts ++ lines ∷ []) (length before) (length since)
+  pub missed : AreMissed (texts ++ lines ∷ []) before since follow.span.missed
   pub earlier : List Event
   pub here : List Event
   pub parts : events ≡ earlier ++ here

@@ -1,5 +1,6 @@
 pub mod Bytes
 pub mod Followed
+pub mod Misses
 pub mod Places
 pub mod Recordings
 pub mod Spans

@@ -1,5 +1,5 @@
 -- What whole texts are when they are followed to their end.
-use Rattle.std.specs.Prelude.{ℕ, Bool, List, [], ◌∷◌, ◌++◌, ◌≡◌, ◌≢◌, ◌≤◌, ◌⊎◌, ◌↔◌, IsTrue, IfSome, Option, None, Some, All, flat_map, length}
+use Rattle.std.specs.Prelude.{ℕ, Bool, List, [], ◌∷◌, ◌++◌, ◌≡◌, ◌≢◌, ◌≤◌, ◌<◌, ◌⊎◌, ◌↔◌, IsTrue, IfSome, Option, None, Some, All, flat_map, length}
 use Rattle.std.specs.List.{AllZip}
 use Rattle.std.specs.Io.KnownBytes.{Appends}
 use Rattle.snap_core.specs.declared.event.Event.{Event}
@@ -7,7 +7,7 @@ use Rattle.snap_core.specs.Events.{IsHistory}
 use Rattle.snap_format.specs.Rows.{rows_of}
 use Rattle.snap_follow.specs.Bytes.{AreAllLines, AreLinesOf}
 use Rattle.snap_follow.specs.Followed.{AllSpell, IsStatusOf, Spells}
-use Rattle.snap_follow.specs.Windows.{AreWindowsOf, Told, line_of, sums_text}
+use Rattle.snap_follow.specs.Windows.{AreWindowsOf, Told, line_of, sums_text, views_of}
 use Rattle.snap_follow.specs.declared.course.TheConstants.{RECORD_LIMIT}
 use Rattle.snap_follow.specs.declared.run.FollowOptions.{FollowOptions}
 use Rattle.snap_follow.specs.declared.run.Followed.{Followed}
@@ -73,14 +73,16 @@ IsCodeOf asked texts has_rest code =
 abbrev pub AreFollowed : FollowOptions → List (List ℕ) → Followed → Type 0
 AreFollowed asked texts followed = followed.lost ≡ None → IfSome followed.code (IsCodeOf asked texts followed.has_rest)
 
--- what was written of the events of a recording: a line for each of its windows, in their order, and then the sums
-pub record HasWritten (asked : FollowOptions) (texts : List (List ℕ)) (has_rest : Bool) (old new : Option (List ℕ)) : Type 0 where
+-- what was written of the events of a recording: a line for each of its windows, in their order, and then the sums. There is no exit
+-- status exactly if the windows have too few completed views
+pub record HasWritten (asked : FollowOptions) (texts : List (List ℕ)) (followed : Followed) (old new : Option (List ℕ)) : Type 0 where
   pub events : List Event
-  pub recording : IsRecording asked.until texts has_rest events
+  pub recording : IsRecording asked.until texts followed.has_rest events
   pub told : List Told
   pub windows : AreWindowsOf asked.least (recording.earlier ++ recording.last ∷ []) events told
   pub wrote : Appends old new (flat_map line_of told ++ sums_text told)
+  pub few : followed.code ≡ None ↔ views_of told < asked.views
 
 -- texts were followed, all of them were there, and their windows were written, or they can't be followed
 abbrev pub AreWritten : FollowOptions → List (List ℕ) → Followed → Option (List ℕ) → Option (List ℕ) → Type 0
-AreWritten asked texts followed old new = followed.lost ≡ None → HasWritten asked texts followed.has_rest old new ⊎ ((followed.code ≡ Some 3) × ¬ CanBeFollowed asked.most.events asked.until texts)
+AreWritten asked texts followed old new = followed.lost ≡ None → HasWritten asked texts followed old new ⊎ ((followed.code ≡ Some 3) × ¬ CanBeFollowed asked.most.events asked.until texts)

@@ -8,6 +8,7 @@ use Rattle.snap_report.specs.Lines.{entry_word}
 use Rattle.snap_theory.specs.Windows.{IsQuiet}
 use Rattle.snap_windows.specs.Verdicts.{IsVerdict}
 use Rattle.snap_windows.specs.declared.judge.Verdict.{Verdict}
+use Rattle.snap_follow.specs.Misses.{AreMissed}
 use Rattle.snap_follow.specs.Places.{IsSpanIn}
 use Rattle.snap_follow.specs.Spans.{IsSpanOf, ends_view, stop}
 use Rattle.snap_follow.specs.declared.follow.Place.{Place}
@@ -33,11 +34,12 @@ abbrev pub HasEnded : ℕ → List Event → List Event → Type 0
 HasEnded least before window = (least ≤ length window) × IsQuiet (before ++ window)
 
 -- a window after others has their number and one more. It has the counts of its own events, the places of the first and the last of
--- them, and the verdict on them from what the others left
+-- them, what their views miss, and the verdict on them from what the others left
 pub record IsToldAfter (least : ℕ) (texts : List (List (List ℕ))) (front : List Told) (t : Told) : Type 0 where
   pub number : t.number ≡ stop (length front + 1)
   pub span : IsSpanOf t.window.span t.events
   pub places : IsSpanIn t.window.span texts (length (events_of front)) (length t.events)
+  pub missed : AreMissed texts (events_of front) t.events t.window.span.missed
   pub verdict : IsVerdict t.window.verdict (events_of front) t.events
   pub first : EndsFirst least (events_of front) t.events
   pub some : 0 < least → t.events ≢ []
@@ -91,10 +93,14 @@ first_text (Some t) = codes " first " ++ decimal t.number
 abbrev pub kind_text : List ℕ → ℕ → List Told → List ℕ
 kind_text word code told = word ++ codes " " ++ decimal (stop (count_by (has_code code) told)) ++ first_text (find (has_code code) told) ++ codes "\n"
 
+-- the number of the completed views of windows
+abbrev pub views_of : List Told → ℕ
+views_of told = stop (sum_by (λ t. count_by ends_view t.events) told)
+
 -- the numbers of windows, of their events and of their completed views, and the lines of the kinds
 abbrev pub sums_text : List Told → List ℕ
 sums_text told =
     codes "windows " ++ decimal (stop (length told)) ++ codes " events " ++ decimal (stop (sum_by (λ t. length t.events) told))
-    ++ codes " views " ++ decimal (stop (sum_by (λ t. count_by ends_view t.events) told)) ++ codes "\n"
+    ++ codes " views " ++ decimal (views_of told) ++ codes "\n"
     ++ kind_text (codes "atomic") 0 told ++ kind_text (codes "only-regular") 1 told ++ kind_text (codes "not-regular") 2 told
     ++ kind_text (codes "refused") 3 told ++ kind_text (codes "failed") 4 told

@@ -35,7 +35,9 @@ impl Answers {
     }
 
     /// The number of completed views that the windows have.
-    pub(crate) fn views(&self) -> u64 {
+    pub(crate) fn views(&self) -> u64
+        ensures { result ≡ self.now.sums.views }
+    {
         self.sums.views()
     }
 
@@ -103,7 +105,8 @@ impl Answers {
 
     /// Adds the lines of the sums.
     pub(crate) fn add_sums(&mut self) -> Result<(), AllocError>
-        ensures { (told : List Told) → AreSums told self.old.sums → OnOk result (self.new.lines ≡ self.old.lines ++ sums_text told) }
+        ensures text { (told : List Told) → AreSums told self.old.sums → OnOk result (self.new.lines ≡ self.old.lines ++ sums_text told) }
+        ensures same { self.new.sums ≡ self.old.sums }
     {
         self.made.clear();
         self.sums.put(&mut self.made)?;

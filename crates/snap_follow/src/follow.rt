@@ -1,5 +1,5 @@
 //! A recording that is followed, line by line.
-ghost use Rattle.std.specs.Prelude.{◌≡◌, ◌≢◌, ◌≤◌, ◌<◌, ◌++◌, ◌∷◌, [], ◌↔◌, ℕ, List, IsTrue, IfErr, IfNone, IfOk, IfSome, OnErr, OnOk, false, length};
+ghost use Rattle.std.specs.Prelude.{◌≡◌, ◌≢◌, ◌≤◌, ◌<◌, ◌++◌, ◌∷◌, [], ◌↔◌, ℕ, List, None, IsTrue, IfErr, IfNone, IfOk, IfSome, OnErr, OnOk, false, length};
 ghost use Rattle.snap_core.specs.declared.event.Event.{Event};
 ghost use Rattle.snap_core.specs.Calls.{calls_of};
 ghost use Rattle.snap_core.specs.Events.{IsHistory};
@@ -13,6 +13,7 @@ ghost use Rattle.snap_format.specs.Rows.{rows_of};
 ghost use Rattle.snap_theory.specs.Windows.{IsQuiet};
 ghost use Rattle.snap_windows.specs.Taken.{HasTaken};
 ghost use Rattle.snap_windows.specs.Verdicts.{IsVerdict};
+ghost use Rattle.snap_follow.specs.Misses.{MissesNext, first_missed as spec_first_missed};
 ghost use Rattle.snap_follow.specs.Spans.{HasOneMore, IsSpanOf, ends_view as spec_ends_view};
 ghost use Rattle.snap_follow.specs.Followed.{EndsText, HasNoRecord, HasRead, IsLack, IsNext, ReadsLine, RefusesLine};
 
@@ -99,7 +100,8 @@ fn open_behind(before: u64, event: &Event) -> u64
 impl Span {
     // A window without events, after a record.
     fn behind(place: Place) -> Span
-        ensures { IsSpanOf result [] }
+        ensures none { IsSpanOf result [] }
+        ensures missed { result.missed ≡ None }
     {
         Span {
             events: 0,
@@ -119,7 +121,8 @@ impl Span {
 
     // The window with one event more, which is at this place and misses this entry.
     fn with(self, event: &Event, place: Place, missed: Option<Entry>) -> Span
-        ensures { HasOneMore self event.now place result }
+        ensures more { HasOneMore self event.now place result }
+        ensures missed { result.missed ≡ spec_first_missed self.missed missed place }
     {
         Span {
             events: self.events.saturating_add(1),
@@ -136,7 +139,9 @@ fn first_missed(
     before: Option<(Entry, Place)>,
     missed: Option<Entry>,
     place: Place,
-) -> Option<(Entry, Place)> {
+) -> Option<(Entry, Place)>
+    ensures { result ≡ spec_first_missed before missed place }
+{
     match (before, missed) {
         (None, Some(entry)) => Some((entry, place)),
         _ => before,
@@ -237,6 +242,7 @@ impl Follow {
         ensures rule { (self.new.least ≡ self.old.least) × (self.new.judge.most ≡ self.old.judge.most) }
         ensures counted { OnOk result (CountsOpen self.old.open_calls event.now self.new.open_calls) }
         ensures span { OnOk result (HasOneMore self.old.span event.now self.old.place self.new.span) }
+        ensures missed { OnOk result (MissesNext self.old.judge event.now self.old.span.missed self.old.place self.new.span.missed) }
         ensures refused { IfErr result (λ why. (before since : List Event) → HasTaken self.old.judge before since → IsHistory (before ++ (since ++ event.now ∷ [])) → IsLack self.old.judge since why) }
     {
         let missed = match self.judge.take(alloc, event) {

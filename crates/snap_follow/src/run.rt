@@ -1,5 +1,5 @@
 //! The run that follows a recording, from its texts to a writer.
-ghost use Rattle.std.specs.Prelude.{◌≡◌, ◌≢◌, ◌↔◌, ◌++◌, ◌∷◌, ℕ, List, [], IsTrue, IsSome, Some, None, IfOk, IfSome, OnOk};
+ghost use Rattle.std.specs.Prelude.{◌≡◌, ◌≢◌, ◌<◌, ◌↔◌, ◌++◌, ◌∷◌, ℕ, List, [], IsTrue, IsSome, Some, None, IfOk, IfSome, OnOk};
 ghost use Rattle.std.specs.Io.KnownBytes.{Appends};
 ghost use Rattle.snap_core.specs.Counting.{inner_of};
 ghost use Rattle.snap_core.specs.declared.counted.Counted.{Counted};
@@ -92,9 +92,21 @@ impl From<AllocError> for FollowFault {
 fn write_end<W: Write>(writer: &mut Counted<W>, answers: &mut Answers) -> Result<(), FollowFault>
     ensures wrote { Leaves W.contents writer.old writer.new result }
     ensures told { OnOk result ((told : List Told) → AreSums told answers.old.sums → Appends (W.contents (inner_of writer.old)) (W.contents (inner_of writer.new)) (answers.old.lines ++ sums_text told)) }
+    ensures sums { OnOk result (answers.new.sums ≡ answers.old.sums) }
 {
     answers.add_sums()?;
     write_lines(writer, answers)
+}
+
+// The exit status, if the windows have as many completed views as were asked for.
+fn code_of(answers: &Answers, code: u8, views: u32) -> Option<u8>
+    ensures code { IfSome result (λ given. given ≡ code) }
+    ensures few { result ≡ None ↔ answers.now.sums.views < views }
+{
+    if answers.views() < u64::from(views) {
+        return None;
+    }
+    Some(code)
 }
 
 // The end of a recording that was followed to its end.
@@ -107,15 +119,15 @@ fn end_whole<W: Write>(
     ensures lost { IfOk result (λ followed. followed.lost ≡ None) }
     ensures rest { IfOk result (λ followed. IsTrue followed.has_rest ↔ (course.rest.items ≢ [])) }
     ensures code { IfOk result (λ followed. IfSome followed.code (λ code. (least most : ℕ) (texts : List (List (List ℕ))) (lines : List (List ℕ)) (events : List Event) → HasRead course.follow least most texts lines events → IsStatusOf events code)) }
-    ensures told { IfOk result (λ _. (gone : List ℕ) (least most : ℕ) (texts : List (List (List ℕ))) (lines : List (List ℕ)) (events : List Event) → HasJudged course.follow course.answers gone least most texts lines events
-        → TellsRest (W.contents (inner_of writer.old)) (W.contents (inner_of writer.new)) gone least (texts ++ lines ∷ []) events) }
+    ensures told { IfOk result (λ followed. (gone : List ℕ) (least most : ℕ) (texts : List (List (List ℕ))) (lines : List (List ℕ)) (events : List Event) → HasJudged course.follow course.answers gone least most texts lines events
+        → TellsRest (W.contents (inner_of writer.old)) (W.contents (inner_of writer.new)) gone least (texts ++ lines ∷ []) events views followed.code) }
     ensures wrote { Leaves W.contents writer.old writer.new result }
 {
     let has_rest = course.has_rest();
     let (code, mut answers) = course.finish(alloc)?;
     write_end(writer, &mut answers)?;
     Ok(Followed {
-        code: (answers.views() >= u64::from(views)).then_some(code),
+        code: code_of(&answers, code, views),
         has_rest,
         lost: None,
     })

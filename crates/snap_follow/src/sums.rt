@@ -155,7 +155,9 @@ impl Sums {
         self.windows.saturating_add(1)
     }
 
-    pub(crate) fn views(&self) -> u64 {
+    pub(crate) fn views(&self) -> u64
+        ensures { result ≡ self.now.views }
+    {
         self.views
     }
 

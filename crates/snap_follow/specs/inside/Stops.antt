@@ -1,12 +1,12 @@
 -- What the writer of a recording has once it is read no further.
-use Rattle.std.specs.Prelude.{ℕ, List, ◌≡◌, ◌≢◌, ◌++◌, Option, flat_map}
+use Rattle.std.specs.Prelude.{ℕ, List, ◌≡◌, ◌≢◌, ◌<◌, ◌↔◌, ◌++◌, Option, None, flat_map}
 use Rattle.std.specs.Io.KnownBytes.{Appends}
 use Rattle.snap_core.specs.declared.event.Event.{Event}
 use Rattle.snap_core.specs.declared.counted.Counted.{Counted}
 use Rattle.snap_follow.specs.declared.pieces.Stop.{Stop}
 use Rattle.snap_follow.specs.declared.pieces.Stop.TheVariants.{Refused, Lost, Fault}
 use Rattle.snap_follow.specs.declared.run.FollowFault.TheVariants as faults
-use Rattle.snap_follow.specs.Windows.{AreWindowsOf, Told, line_of, sums_text}
+use Rattle.snap_follow.specs.Windows.{AreWindowsOf, Told, line_of, sums_text, views_of}
 use Rattle.snap_follow.specs.Written.{FaultLeaves, HasSent}
 
 -- what the writer has, by what has stopped the reading
@@ -20,9 +20,10 @@ abbrev pub IsNoWrite : Stop → Type 0
 IsNoWrite stop = stop ≢ Fault faults.Write
 
 -- the rest of what is told of a recording was written, after these bytes had gone out
-pub record TellsRest (old new : Option (List ℕ)) (gone : List ℕ) (least : ℕ) (texts : List (List (List ℕ))) (events : List Event) : Type 0 where
+pub record TellsRest (old new : Option (List ℕ)) (gone : List ℕ) (least : ℕ) (texts : List (List (List ℕ))) (events : List Event) (views : ℕ) (code : Option ℕ) : Type 0 where
   pub told : List Told
   pub windows : AreWindowsOf least texts events told
   pub out : List ℕ
   pub sent : Appends old new out
   pub all : gone ++ out ≡ flat_map line_of told ++ sums_text told
+  pub few : code ≡ None ↔ views_of told < views

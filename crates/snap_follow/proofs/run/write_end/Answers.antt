@@ -15,4 +15,7 @@ pub returns-clause-told : goal.returns-clause-told
 returns-clause-told g c =
     let contents = g.W.Write.contents in
     on_ok_then c.write_lines.result _ _ c.write_lines.ensures.all
-    (λ all told sums. subst (Appends (contents (inner_of c.args.writer.now)) (contents (inner_of c.write_lines.new.writer))) (sym all.1.0 ∙ c.in_ok-add_sums.ensures told sums) all.0.sent)
+    (λ all told sums. subst (Appends (contents (inner_of c.args.writer.now)) (contents (inner_of c.write_lines.new.writer))) (sym all.1.0 ∙ c.in_ok-add_sums.ensures.text told sums) all.0.sent)
+
+pub returns-clause-sums : goal.returns-clause-sums
+returns-clause-sums g c = on_ok_then c.write_lines.result _ _ c.write_lines.ensures.all (λ all. all.1.2 ∙ c.add_sums.ensures.same)

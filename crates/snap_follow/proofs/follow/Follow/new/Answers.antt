@@ -1,4 +1,6 @@
-use Rattle.std.proofs.Common.{[], ◌∷◌, ap, arith, inl, refl}
+use Rattle.std.proofs.Common.{[], ◌∷◌, ap, arith, inl, refl, subst, sym}
+use Rattle.snap_follow.specs.Misses.{AreMissed}
+use Rattle.snap_follow.proofs.Missing.{none_missed}
 use Rattle.snap_follow.proofs.Placing.{span_of_none}
 use Rattle.snap_follow.proofs.follow.Follow.new.Goals as goal
 
@@ -11,8 +13,9 @@ returns c = record {
   since = [];
   taken = c.new.ensures.taken;
   windows = refl;
-  span_is = c.behind.ensures;
+  span_is = c.behind.ensures.none;
   span_in = span_of_none _ ([] ∷ []) 0;
+  missed = subst (AreMissed ([] ∷ []) [] []) (sym c.behind.ensures.missed) (none_missed ([] ∷ []) []);
   earlier = [];
   here = [];
   parts = refl;
