@@ -380,7 +380,7 @@ failed 0
                          (1, "window 2 events 6 only-regular from 6 to 11", ["window-2.csv"]))
         with open(self.path("kept/window-2.csv")) as file, open(os.path.join(EXAMPLES, "new-old-inversion.csv")) as wanted:
             self.assertEqual(file.read(), wanted.read().replace("0:1:7", "0:1:8"))
-        for folder, words in (("none", "--keep: none is no folder"), ("run.csv", "--keep: run.csv is no folder")):
+        for folder, words in (("none", "--keep: none is not a folder"), ("run.csv", "--keep: run.csv is not a folder")):
             status, _, said = self.ran("--once", "--keep", folder, "run.csv")
             self.assertEqual((status, words in said), (5, True))
         os.remove(self.path("kept/window-2.csv"))
@@ -634,7 +634,7 @@ failed 0
         self.put("run.csv", CALM)
         for words, status, told in ((["none.csv"], 4, "none.csv: no such file"), (["--once", "."], 0, ""), ([], 5, "PATH"), (["--help"], 5, ""),
                                     (["--events", "0", "run.csv"], 5, "--events"), (["--events", "65537", "run.csv"], 5, "--events"),
-                                    (["--idle", "-1", "run.csv"], 5, "--idle"), (["--interval", "nan", "run.csv"], 5, "/--interval: 'nan' is no number above 0 and below 1000000000"),
+                                    (["--idle", "-1", "run.csv"], 5, "--idle"), (["--interval", "nan", "run.csv"], 5, "/--interval: 'nan' is not a number above 0 and below 1000000000"),
                                     (["--once", "--idle", "1", "run.csv"], 5, "not allowed with"), (["--rounds", "run.csv"], 5, "--rounds wants a folder")):
             found = self.ran(*words)
             self.assertEqual((found[0], told in found[2]), (status, True), (words, found))

@@ -341,7 +341,7 @@ def seconds(word):
     except ValueError:
         number = 0
     if not 0 < number < LONGEST:
-        raise argparse.ArgumentTypeError(f"{word!r} is no number above 0 and below {LONGEST}")
+        raise argparse.ArgumentTypeError(f"{word!r} is not a number above 0 and below {LONGEST}")
     return number
 
 
@@ -351,13 +351,13 @@ def words_of(arguments):
         "An interrupt ends it, with the sums so far."))
     when = words.add_mutually_exclusive_group()
     when.add_argument("--once", action="store_true", help="end at the end of the file or the folder, and wait for nothing")
-    when.add_argument("--idle", metavar="SECONDS", type=seconds, help="end if nothing has come for so long")
+    when.add_argument("--idle", metavar="SECONDS", type=seconds, help="end if nothing has come for this time")
     when.add_argument("--pid", metavar="PID", type=positive, help="end when this process, which records, is gone")
-    words.add_argument("-s", "--interval", metavar="SECONDS", type=seconds, default=1.0, help="look for more so often; 1 if not said")
+    words.add_argument("-s", "--interval", metavar="SECONDS", type=seconds, default=1.0, help="look for more once in this time; the default is 1")
     words.add_argument("--events", metavar="N", type=limit,
-                       help=f"end a window at the first such moment from N events on; {LEAST} if not said")
+                       help=f"end a window at its first such moment, once it has N events; the default is {LEAST}")
     words.add_argument("--most", metavar="N", type=limit, default=USUAL,
-                       help=f"let a window have so many events; {USUAL} if not said, and {MOST_EVENTS} at most")
+                       help=f"let a window have up to N events; the default is {USUAL}, and {MOST_EVENTS} is the most")
     words.add_argument("--rounds", action="store_true", help="each file of the folder is a round, whose numbers begin at 1")
     words.add_argument("--keep", metavar="FOLDER", help="write each window that is not atomic into this folder")
     words.add_argument("--views", metavar="N", type=natural, default=0, help="refuse a recording of fewer than N completed views")
@@ -368,7 +368,7 @@ def words_of(arguments):
     if found.events > found.most:
         words.error(f"--events: a window has {found.most} events at most; --most allows more")
     if found.keep is not None and not os.path.isdir(found.keep):
-        words.error(f"--keep: {found.keep} is no folder")
+        words.error(f"--keep: {found.keep} is not a folder")
     if found.rounds and not os.path.isdir(found.path):
         words.error("--rounds wants a folder")
     return found

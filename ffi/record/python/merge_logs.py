@@ -540,7 +540,7 @@ def words_of_command():
     option("--table", "FILE", "values may be any words; FILE then has the number for each, in lines NUMBER,WORD")
     told = "the store numbers the updates of a component: ends of updates and entries of views have these versions"
     parser.add_argument("--versions", help=told, action="store_true")
-    option("--events", "N", f"how many events the history may have, {EVENT_LIMIT} if not said", type=events, default=EVENT_LIMIT)
+    option("--events", "N", f"how many events the history may have; the default is {EVENT_LIMIT}", type=events, default=EVENT_LIMIT)
     option("logs", "LOG", "the log of one process", nargs="+")
     words = parser.parse_args()
     if words.table is None and not all(number_below(1 << 32, value) is not None for value in words.initial):

@@ -175,8 +175,8 @@ func histories(kind string, byEvents bool) ([]fromporcupine.History, error) {
 }
 
 func main() {
-	if len(os.Args) < 3 {
-		fmt.Fprintln(os.Stderr, "usage: stored right|stale|lost FILE [events]")
+	if len(os.Args) < 3 || os.Args[1] != "right" && os.Args[1] != "stale" && os.Args[1] != "lost" {
+		fmt.Fprintln(os.Stderr, "usage: stored right|stale|lost FILE [operations|events]")
 		os.Exit(5)
 	}
 	histories, err := histories(os.Args[1], len(os.Args) > 3 && os.Args[3] == "events")
