@@ -24,6 +24,10 @@ RECORDERS = HERE.parents[1] / "ffi/record"
 sys.path.insert(0, str(RECORDERS / "python"))
 from snaprecord import Recorder
 
+# a script that is asked for help writes its head, and does nothing else
+if sys.argv[1:2] in (["-h"], ["--help"]):
+    sys.exit(print(sys.modules["__main__"].__doc__.strip()))
+
 WORKERS, CALLS = 4, 200  # how many calls each worker makes
 RUNS = 20  # how many runs each way has by default
 VERDICTS = ["atomic", "only regular", "neither"]  # by the status of the judge

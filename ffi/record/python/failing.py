@@ -81,6 +81,8 @@ def run(program, way):
 
 
 def main():
+    if sys.argv[1:] in (["-h"], ["--help"]):
+        sys.exit(print(__doc__.strip()))
     if len(sys.argv) != 4 or sys.argv[2] not in ("drop", "again", "unknown", "end"):
         raise SystemExit("usage: failing.py PROGRAM WAY RUNS, where WAY is drop, again, unknown or end")
     program, way, runs = sys.argv[1:]

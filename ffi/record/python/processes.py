@@ -91,6 +91,8 @@ def run(program, has_lock):
 
 
 def main():
+    if sys.argv[1:] in (["-h"], ["--help"]):
+        sys.exit(print(__doc__.strip()))
     if len(sys.argv) != 4 or sys.argv[2] not in ("lock", "naive"):
         raise SystemExit("usage: processes.py PROGRAM OBJECT RUNS, where OBJECT is lock or naive")
     program, name, runs = sys.argv[1:]
