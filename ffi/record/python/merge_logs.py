@@ -372,7 +372,7 @@ class Board:
         free = self.free_processes(calls)
         self.calls = [call for call in calls if call.op == "view"]
         components = {k: Component(k, updates[k], first_shown, has_versions) for k in sorted(updates)}
-        if has_versions:
+        if any(overlap(*pair) for component in components.values() for pair in zip(component.updates, component.updates[1:])):
             moments = moments_of({k: component.updates for k, component in components.items()}, views)
             for k, component in components.items():
                 component.part(moments[k])

@@ -33,6 +33,9 @@ func (queue *queue) Pop() any {
 
 // Parts writes of one component that overlap: the first ends, and the next begins, where the next one takes effect.
 func (board *board) part() {
+	if !board.hasOverlap() {
+		return
+	}
 	effects := board.effects()
 	for _, component := range board.components {
 		writes := board.inOrder[component]
@@ -50,6 +53,17 @@ func (board *board) part() {
 			writes[at].begunTurn = when.turn
 		}
 	}
+}
+
+func (board *board) hasOverlap() bool {
+	for _, writes := range board.inOrder {
+		for at := 1; at < len(writes); at++ {
+			if overlap(writes[at-1], writes[at]) {
+				return true
+			}
+		}
+	}
+	return false
 }
 
 // If some order of all calls explains the reads, one in which each call takes effect as early as it can: at its begin, or with the last
