@@ -65,8 +65,10 @@ class Store:
             return self.boards[max(0, len(self.boards) - 4)]
         return list(self.board), list(self.versions)
 
-    def run(self, calls, timeouts=0.0, share_keys=False):
-        """The operations of a run. Each client writes keys of its own, or all share the keys, and then a key has one writer at a time."""
+    def run(self, calls, timeouts=0.0, share_keys=False, at_once=False):
+        """The operations of a run. Each client writes keys of its own, or all share the keys. Then a key has one writer at a time, or
+        any number at once.
+        """
         states = {client: [client, None] for client in range(self.clients)}
         writers, late = {}, []
         while calls or any(state[1] for state in states.values()):
@@ -79,7 +81,7 @@ class Store:
                     continue
                 calls -= 1
                 key = self.draw.randrange(len(self.board)) if share_keys else client
-                if self.draw.random() < 0.5 and key < len(self.board) and writers.setdefault(key, client) == client:
+                if self.draw.random() < 0.5 and key < len(self.board) and (at_once or writers.setdefault(key, client) == client):
                     self.values += 1
                     states[client][1] = ("w", key, self.values, None)
                     self.note("invoke", process, [["w", key, self.values]])
@@ -100,7 +102,7 @@ class Store:
                 found, version = open_call[3]
                 if found is None:
                     self.note("ok", process, [["w", *open_call[1:3]]], version=version)
-                    if share_keys:
+                    if share_keys and not at_once:
                         del writers[open_call[1]]  # the next writer may be another one
                 else:
                     read = [["r", k, value] for k, value in enumerate(found[0])]
@@ -172,6 +174,20 @@ class Jepsen(unittest.TestCase):
         self.assertEqual(caught["right"], 0)
         self.assertGreater(caught["stale"], 20)
         self.assertGreater(caught["lost"], 20)
+
+    def test_writes_at_once(self):
+        """By versions the judge takes writes of one key that overlap: right stores are atomic, and some run of the others is caught."""
+        caught = collections.Counter()
+        for kind in ("right", "stale"):
+            runs = []
+            for seed in range(10):
+                text = in_edn(Store(random.Random(seed), kind).run(200, share_keys=True, at_once=True))
+                with self.assertRaises(LogError):
+                    made(text)
+                runs += made(text, has_versions=True)
+            caught[kind] = judge(runs).count(False)
+        self.assertEqual(caught["right"], 0)
+        self.assertGreater(caught["stale"], 5)
 
     def test_each_key_by_itself(self):
         """Pairs of a key and a value are keys of their own, so that each makes a history."""
