@@ -17,7 +17,9 @@ if has python3 "the second judge"; then
 " python3 -B "$examples/judge.py" "$examples/skipped-number.csv"
   expect "a file by name that is not there" 4 "" python3 -B "$examples/judge.py" none.csv
   expect_said "its name and the reason" "judge.py: none.csv: No such file or directory"
-  for words in -x --help "old.csv old.csv"; do
+  expect "the second judge's help" 0 "usage: judge.py [FILE]
+" python3 -B "$examples/judge.py" --help
+  for words in -x "old.csv old.csv"; do
     expect "the second judge's words $words" 5 "" python3 -B "$examples/judge.py" $words
     expect_said "the usage" "usage: judge.py [FILE]"
   done
