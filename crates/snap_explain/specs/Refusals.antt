@@ -1,5 +1,6 @@
--- Why a text is not a history: what is wrong with a field data, the rule that is broken, and the record that breaks it.
-use Rattle.std.specs.Prelude.{◌≡◌, ℕ, List, [], ◌++◌, codes, decimal, Option, Some, None, if◌then◌else◌, nat_lt}
+-- Why a text is not a history: what is wrong with a field data or what converts the text, the rule that is broken, and the record that
+-- breaks it.
+use Rattle.std.specs.Prelude.{◌≡◌, ◌==◌, ◌∷◌, ℕ, Bool, false, List, [], ◌++◌, ◌||◌, codes, decimal, Option, Some, None, if◌then◌else◌, nat_lt}
 use Rattle.std.specs.List.{flat_map}
 use Rattle.std.specs.Option.{option_map_or}
 use Rattle.snap_core.specs.Events.{event_cap}
@@ -35,9 +36,26 @@ abbrev pub told_of : Option Fields → List ℕ
 told_of (Some fields) = option_map_or mistake_text (record_mistake fields) []
 told_of None = []
 
--- what is wrong with the field data of a record, if that field is its fault
+-- a field begins with a brace or a bracket, as the logs of other tools do
+abbrev pub begins_log : List ℕ → Bool
+begins_log [] = false
+begins_log (c ∷ field) = (c == 123) || (c == 91)
+
+-- the first field of a record begins so, if there is one
+abbrev pub is_log : Fields → Bool
+is_log [] = false
+is_log (field ∷ fields) = begins_log field
+
+-- what makes histories of such a log
+abbrev pub converter_text : Option Fields → List ℕ
+converter_text (Some fields) =
+    if is_log fields then codes "a text that begins with { or [ may be a log of Jepsen: snapjudge-from-jepsen makes histories of it (docs/JEPSEN.md)\n" else []
+converter_text None = []
+
+-- what is wrong with the field data of a record, if that field is its fault, or what converts the text, if its header is
 abbrev pub fault_told : TextFault → Option Fields → List ℕ
 fault_told faults.BadData found = told_of found
+fault_told faults.Header found = converter_text found
 fault_told _ found = []
 
 -- the rule that a fault breaks: what a text without it has. If that is a limit, the words before its number
@@ -85,7 +103,8 @@ abbrev pub record_text : ℕ → Option Fields → List ℕ
 record_text place (Some fields) = codes "  record " ++ decimal place ++ codes " has the fields" ++ flat_map quoted fields ++ codes "\n"
 record_text place None = codes "  no record of the text has that number\n"
 
--- the line of a fault at a place, what is wrong with its field data, the rule that it breaks, and the record there
+-- the line of a fault at a place, what is wrong with its field data or what converts the text, the rule that it breaks, and the record
+-- there
 unfoldable pub refusal_explanation : ℕ → List ℕ → ℕ → TextFault → List ℕ
 refusal_explanation limit text place fault =
     line_text (refusal_line place fault) ++ fault_told fault (record_at (rows_of text) place) ++ rule_of fault ++ limit_of limit fault

@@ -2,7 +2,7 @@
 ghost use Rattle.std.specs.Prelude.{◌≡◌, ◌++◌, IfOk, OnOk, decimal, map, nat_lt, option_map};
 ghost use Rattle.std.specs.List.{flat_map};
 ghost use Rattle.snap_core.specs.Events.{event_cap};
-ghost use Rattle.snap_explain.specs.Refusals.{IsRefusalExplanation, byte_words as spec_byte_words, event_words as spec_event_words, limit_of, mistake_text, quoted, record_text, fault_told, told_of, rule_of as spec_rule_of};
+ghost use Rattle.snap_explain.specs.Refusals.{IsRefusalExplanation, byte_words as spec_byte_words, converter_text, event_words as spec_event_words, is_log as spec_is_log, limit_of, mistake_text, quoted, record_text, fault_told, told_of, rule_of as spec_rule_of};
 
 use crate::mistake::{Mistake, record_mistake};
 use snap_core::{EVENT_CAP, Limit};
@@ -136,7 +136,30 @@ fn put_told(out: &mut Vec<u8>, found: Option<&[Vec<u8>]>) -> Result<(), AllocErr
     }
 }
 
-// Adds the first mistake in the field data of a record if that field is its fault, and otherwise nothing.
+// Whether the first field of a record begins with a brace or a bracket, as the logs of other tools do.
+fn is_log(fields: &[Vec<u8>]) -> bool
+    ensures { result ≡ spec_is_log (map (λ f. f.items) fields.now) }
+{
+    match fields.first() {
+        Some(field) => matches!(field.first(), Some(b'{' | b'[')),
+        None => false,
+    }
+}
+
+// Adds what makes histories of the log that a record begins, if it begins one.
+fn put_converter(out: &mut Vec<u8>, found: Option<&[Vec<u8>]>) -> Result<(), AllocError>
+    ensures { OnOk result (out.new.items ≡ out.old.items ++ converter_text (option_map (λ fields. map (λ f. f.items) fields.now) found.entry)) }
+{
+    match found {
+        Some(fields) if is_log(fields) => out.extend_from_slice(
+            b"a text that begins with { or [ may be a log of Jepsen: snapjudge-from-jepsen makes histories of it (docs/JEPSEN.md)\n",
+        ),
+        _ => Ok(()),
+    }
+}
+
+// Adds the first mistake in the field data of a record if that field is its fault, or what converts the text if its header is. Of any
+// other fault it adds nothing.
 fn put_fault(
     out: &mut Vec<u8>,
     fault: TextFault,
@@ -146,6 +169,7 @@ fn put_fault(
 {
     match fault {
         TextFault::BadData => put_told(out, found),
+        TextFault::Header => put_converter(out, found),
         _ => Ok(()),
     }
 }
@@ -222,8 +246,9 @@ fn put_record(out: &mut Vec<u8>, place: u32, found: Option<&[Vec<u8>]>) -> Resul
 
 /// Why a text is not a history within a limit of events, by its first fault and the place of that. The explanation has the line of the
 /// report, the rule that is broken, in sentences, and the fields of the record at that place. Each field is in quotes after a space,
-/// and shown as a name is. Before the rule of a field data is the first mistake in that field. If no record has that number, a line
-/// says so in place of the fields. So it is for the text as a whole, which is place 0. The error is want of memory.
+/// and shown as a name is. Before the rule of a field data is the first mistake in that field. Before the rule of a header is what makes
+/// histories of the text, if that begins as a log of Jepsen does. If no record has that number, a line says so in place of the fields. So
+/// it is for the text as a whole, which is place 0. The error is want of memory.
 pub fn explain_refusal(
     alloc: Global,
     text: &[u8],
