@@ -1,5 +1,5 @@
 //! Who reads and judges a text.
-ghost use Rattle.std.specs.Prelude.{◌≡◌, ◌↔◌, [], IfOk, IfSome, IsSome, is_some, map};
+ghost use Rattle.std.specs.Prelude.{◌≡◌, ◌↔◌, [], IfOk, IfSome, IsSome, is_some, map, true};
 ghost use Rattle.std.specs.Option.{ForSome};
 ghost use Rattle.std.specs.Thread.{IsSync};
 ghost use Rattle.snap_core.specs.Calls.{calls_of, views_of};
@@ -111,12 +111,14 @@ impl Judging for Alone {
     }
 }
 
-/// Workers of a runtime, by a cutting. One of them judges a text of fewer bytes than `alone_below`.
+/// Workers of a runtime, by a cutting. One of them judges a text of fewer bytes than `alone_below`. Any other text has
+/// `SHARED_PIECES` pieces if `finer` is set, and else those of the cutting.
 #[derive(Drop)]
 pub struct Workers<'r, Rt> {
     pub rt: &'r Rt,
     pub cutting: Cutting,
     pub alone_below: usize,
+    pub finer: bool,
 }
 
 impl<Rt: Threads + Sync> Judging for Workers<'_, Rt> {
@@ -138,7 +140,7 @@ impl<Rt: Threads + Sync> Judging for Workers<'_, Rt> {
         index: &Index<'_>,
         bytes: usize,
     ) -> Result<(Tally, Option<ViewChain>), AllocError> {
-        let cutting = cutting_for(bytes, self.alone_below, self.cutting);
+        let cutting = cutting_for(bytes, self.alone_below, self.finer, self.cutting);
         tally_and_chain(self.rt, alloc, index, cutting, &OpenGate)
     }
 
@@ -150,16 +152,22 @@ impl<Rt: Threads + Sync> Judging for Workers<'_, Rt> {
         chain: Option<ViewChain>,
         bytes: usize,
     ) -> Result<Option<Vec<u32>>, AllocError> {
-        let cutting = cutting_for(bytes, self.alone_below, self.cutting);
+        let cutting = cutting_for(bytes, self.alone_below, self.finer, self.cutting);
         order_by(self.rt, alloc, index, tally, chain, cutting.workers())
     }
 }
 
-/// The workers of a run that the program starts for one text: by a cutting, and one for a short text.
-pub fn workers_of<Rt: Threads + Sync>(rt: &Rt, cutting: Cutting) -> Workers<'_, Rt> {
+/// The workers of a run that the program starts for one text: those of a cutting, and one for a short text. The number of pieces of
+/// a long text is left to the program.
+pub fn workers_of<Rt: Threads + Sync>(rt: &Rt, cutting: Cutting) -> Workers<'_, Rt>
+    ensures cutting { result.cutting ≡ cutting }
+    ensures alone { result.alone_below ≡ SHARED_FROM }
+    ensures pieces { result.finer ≡ true }
+{
     Workers {
         rt,
         cutting,
         alone_below: SHARED_FROM,
+        finer: true,
     }
 }

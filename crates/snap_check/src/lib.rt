@@ -14,4 +14,4 @@ pub use judging::{Alone, Judging, Workers, workers_of};
 pub use options::CheckOptions;
 pub use reading::{Reading, read_in};
 pub use snap_verdict::Status;
-pub use workers::{SHARED_FROM, cutting_for};
+pub use workers::{SHARED_FROM, SHARED_PIECES, cutting_for};

@@ -15,6 +15,8 @@ pub struct CheckOptions {
     pub limit: Limit,
     /// One worker judges a text of fewer bytes in one piece, whatever the cutting is. 0 leaves each text its cutting.
     pub alone_below: usize,
+    /// Whether a text that workers share has `SHARED_PIECES` pieces, and not those of the cutting.
+    pub finer: bool,
 }
 
 impl CheckOptions {
@@ -25,12 +27,14 @@ impl CheckOptions {
         ensures views { result.views ≡ 0 }
         ensures limit { result.limit.events ≡ event_limit }
         ensures alone_below { result.alone_below ≡ 0 }
+        ensures pieces { result.finer ≡ false }
     {
         CheckOptions {
             quiet: false,
             views: 0,
             limit: Limit::usual(),
             alone_below: 0,
+            finer: false,
         }
     }
 }

@@ -14,7 +14,7 @@ use Rattle.snap_files.specs.inside.Files.{AreAnswered, paged}
 use Rattle.snap_files.specs.inside.Sums.{AreSums, IsFirst, Summed, greatest_of}
 use Rattle.snap_files.specs.Sums.{Judged, counting, has_code, judged_of, with_code}
 use Rattle.snap_files.proofs.Pages.{are_pages, flat_push, page_of, paged_next, round_joined, told_more, zip_append}
-use Rattle.snap_core.specs.declared.limit.Limit.{Limit}
+use Rattle.snap_check.specs.declared.options.CheckOptions.{CheckOptions}
 
 -- what is found in a list is found in a longer one
 
@@ -108,16 +108,16 @@ pub greatest_is : (pages : List Page) → greatest_of (judged_of pages) ≡ grea
 greatest_is [] = refl
 greatest_is (p ∷ ps) = ap (λ n. max (answer_code p.answer) n) (greatest_is ps)
 
-pub round_summed : (opens : Opens) (limit : Limit) (views : ℕ) (names : List (Vec ℕ)) (from : ℕ) (round : List (Vec ℕ)) (answers : List (Answer × Vec ℕ)) (told_old told_mid told_new : Option (List ℕ)) (f g h : ℕ) (sums_old sums_new : Sums) →
-    round ≡ take (length round) (drop from names) → (so_far : Summed opens limit views (take from names) told_old told_mid f g sums_old) → AreAnswered opens (counting limit views) round answers →
-    AreSums (judged_of so_far.pages ++ judged_of (paged round answers)) sums_new → Told told_mid told_new g h (said (counting limit views) (paged round answers)) →
-    Summed opens limit views (take (from + length round) names) told_old told_new f h sums_new
-round_summed opens limit views names from round answers told_old told_mid told_new f g h sums_old sums_new is so_far all sums told =
+pub round_summed : (opens : Opens) (check : CheckOptions) (names : List (Vec ℕ)) (from : ℕ) (round : List (Vec ℕ)) (answers : List (Answer × Vec ℕ)) (told_old told_mid told_new : Option (List ℕ)) (f g h : ℕ) (sums_old sums_new : Sums) →
+    round ≡ take (length round) (drop from names) → (so_far : Summed opens check (take from names) told_old told_mid f g sums_old) → AreAnswered opens (counting check) round answers →
+    AreSums (judged_of so_far.pages ++ judged_of (paged round answers)) sums_new → Told told_mid told_new g h (said (counting check) (paged round answers)) →
+    Summed opens check (take (from + length round) names) told_old told_new f h sums_new
+round_summed opens check names from round answers told_old told_mid told_new f g h sums_old sums_new is so_far all sums told =
     let more = paged round answers in
     record {
       pages = so_far.pages ++ more;
-      each = subst (λ (ns : List (Vec ℕ)). ArePages opens (counting limit views) ns (so_far.pages ++ more)) (round_joined names from round is) (zip_append _ (take from names) round so_far.pages more so_far.each (are_pages opens (counting limit views) round answers all));
-      told = subst (λ (l : List ℕ). Told told_old told_new f h l) (sym (flat_map-append (λ (p : Page). told_text (counting limit views) p.name p.answer) so_far.pages more)) (told_more told_old told_mid told_new f g h _ _ so_far.told told);
+      each = subst (λ (ns : List (Vec ℕ)). ArePages opens (counting check) ns (so_far.pages ++ more)) (round_joined names from round is) (zip_append _ (take from names) round so_far.pages more so_far.each (are_pages opens (counting check) round answers all));
+      told = subst (λ (l : List ℕ). Told told_old told_new f h l) (sym (flat_map-append (λ (p : Page). told_text (counting check) p.name p.answer) so_far.pages more)) (told_more told_old told_mid told_new f g h _ _ so_far.told told);
       sums_are = subst (λ (l : List Judged). AreSums l sums_new) (sym (map-append (λ (p : Page). with_code p.name (answer_code p.answer)) so_far.pages more)) sums;
     }
 
@@ -145,9 +145,9 @@ pub paged_fits : (names : List (Vec ℕ)) (pages : List (Answer × Vec ℕ)) (pl
 paged_fits names pages place same low =
     length-map (paged (take place names) (take place pages)) (λ (p : Page). with_code p.name (answer_code p.answer)) ∙ length_paged (take place names) (take place pages) (length-take-le place names (omega arith) ∙ sym (length-take-le place pages (omega arith))) ∙ length-take-le place names (omega arith)
 
-pub none_summed : (opens : Opens) (limit : Limit) (views : ℕ) (told : Option (List ℕ)) (failures : ℕ) (sums : Sums) → AreSums [] sums → Summed opens limit views [] told told failures failures sums
-none_summed opens limit views told failures sums are = record { pages = []; each = tt; told = inl (Appends-nil told, refl); sums_are = are }
+pub none_summed : (opens : Opens) (check : CheckOptions) (told : Option (List ℕ)) (failures : ℕ) (sums : Sums) → AreSums [] sums → Summed opens check [] told told failures failures sums
+none_summed opens check told failures sums are = record { pages = []; each = tt; told = inl (Appends-nil told, refl); sums_are = are }
 
-pub all_summed : (opens : Opens) (limit : Limit) (views : ℕ) (names : List (Vec ℕ)) (from : ℕ) (told_old told_new : Option (List ℕ)) (f g : ℕ) (sums : Sums) → length names ≤ from →
-    Summed opens limit views (take from names) told_old told_new f g sums → Summed opens limit views names told_old told_new f g sums
-all_summed opens limit views names from told_old told_new f g sums whole so_far = subst (λ (ns : List (Vec ℕ)). Summed opens limit views ns told_old told_new f g sums) (take_all from names whole) so_far
+pub all_summed : (opens : Opens) (check : CheckOptions) (names : List (Vec ℕ)) (from : ℕ) (told_old told_new : Option (List ℕ)) (f g : ℕ) (sums : Sums) → length names ≤ from →
+    Summed opens check (take from names) told_old told_new f g sums → Summed opens check names told_old told_new f g sums
+all_summed opens check names from told_old told_new f g sums whole so_far = subst (λ (ns : List (Vec ℕ)). Summed opens check ns told_old told_new f g sums) (take_all from names whole) so_far

@@ -3,9 +3,8 @@ use Rattle.std.specs.Prelude.{◌≡◌, ◌==◌, ◌++◌, ◌⊎◌, ℕ, Boo
 use Rattle.std.specs.Global.{Vec}
 use Rattle.std.specs.Io.KnownBytes.{Appends}
 use Rattle.snap_core.specs.Sending.{SendsFront}
-use Rattle.snap_core.specs.declared.limit.Limit.{Limit}
 use Rattle.snap_names.specs.Shown.{shown}
-use Rattle.snap_check.specs.declared.workers.TheConstants.{SHARED_FROM}
+use Rattle.snap_check.specs.declared.options.CheckOptions.{CheckOptions}
 use Rattle.snap_files.specs.Files.{ArePages, Opens, Page, Told, answer_code, greatest_code, said}
 use Rattle.snap_files.specs.declared.format.FileOptions.{FileOptions}
 use Rattle.snap_files.specs.declared.format.Format.TheVariants.{Plain}
@@ -41,23 +40,23 @@ sums_text files =
     ++ kind_text (codes "not-regular ") 2 files ++ kind_text (codes "refused ") 3 files ++ kind_text (codes "failed ") 4 files
 
 -- what is asked of each text if only its status is counted
-abbrev pub counting : Limit → ℕ → FileOptions
-counting limit views = record { format = Plain; check = record { quiet = true; views = views; limit = limit; alone_below = SHARED_FROM } }
+abbrev pub counting : CheckOptions → FileOptions
+counting check = record { format = Plain; check = record check { quiet = true } }
 
 -- all names were judged: the greatest status, the sums that were written, and what was said
-pub record SumsAll (opens : Opens) (limit : Limit) (views : ℕ) (names : List (Vec ℕ)) (old new : Option (List ℕ)) (told_old told_new : Option (List ℕ)) (failures_old failures_new : ℕ) (code : ℕ) : Type 0 where
+pub record SumsAll (opens : Opens) (check : CheckOptions) (names : List (Vec ℕ)) (old new : Option (List ℕ)) (told_old told_new : Option (List ℕ)) (failures_old failures_new : ℕ) (code : ℕ) : Type 0 where
   pub pages : List Page
-  pub each : ArePages opens (counting limit views) names pages
+  pub each : ArePages opens (counting check) names pages
   pub greatest : code ≡ greatest_code pages
   pub wrote : Appends old new (sums_text (judged_of pages))
-  pub told : Told told_old told_new failures_old failures_new (said (counting limit views) pages)
+  pub told : Told told_old told_new failures_old failures_new (said (counting check) pages)
 
 -- a front of the sums went out, after all names were judged
-pub record SumsCut (opens : Opens) (limit : Limit) (views : ℕ) (names : List (Vec ℕ)) (old new : Option (List ℕ)) : Type 0 where
+pub record SumsCut (opens : Opens) (check : CheckOptions) (names : List (Vec ℕ)) (old new : Option (List ℕ)) : Type 0 where
   pub pages : List Page
-  pub each : ArePages opens (counting limit views) names pages
+  pub each : ArePages opens (counting check) names pages
   pub wrote : SendsFront old new (sums_text (judged_of pages))
 
 -- nothing was written, or a front of the sums
-abbrev pub SumsSome : Opens → Limit → ℕ → List (Vec ℕ) → Option (List ℕ) → Option (List ℕ) → Type 0
-SumsSome opens limit views names old new = Appends old new [] ⊎ SumsCut opens limit views names old new
+abbrev pub SumsSome : Opens → CheckOptions → List (Vec ℕ) → Option (List ℕ) → Option (List ℕ) → Type 0
+SumsSome opens check names old new = Appends old new [] ⊎ SumsCut opens check names old new

@@ -26,11 +26,12 @@ pub struct FileOptions {
 impl FileOptions {
     /// The options of a check that answers with objects if `json` is set, and else with reports. A report is short if `quiet` is
     /// set. A history needs `views` completed views, and may have as many events as the limit says. A text of fewer than
-    /// `SHARED_FROM` bytes has one worker.
-    pub fn new(json: bool, quiet: bool, views: u32, limit: Limit) -> FileOptions
+    /// `SHARED_FROM` bytes has one worker. If `finer` is set, the number of pieces of any other text is left to the program.
+    pub fn new(json: bool, quiet: bool, views: u32, limit: Limit, finer: bool) -> FileOptions
         ensures format { MatchBool json (result.format ≡ Format.Json) (result.format ≡ Format.Plain) }
         ensures check { (result.check.quiet ≡ quiet) × (result.check.views ≡ views) × (result.check.limit ≡ limit) }
         ensures alone { result.check.alone_below ≡ SHARED_FROM }
+        ensures pieces { result.check.finer ≡ finer }
     {
         FileOptions {
             format: if json { Format::Json } else { Format::Plain },
@@ -39,6 +40,7 @@ impl FileOptions {
                 views,
                 limit,
                 alone_below: SHARED_FROM,
+                finer,
             },
         }
     }

@@ -11,8 +11,8 @@ use crate::format::{FileOptions, Format};
 use crate::page::{Answer, code_of, told_of};
 use crate::round::{pages_of, round_at};
 use crate::sums::Sums;
-use snap_check::{CheckOptions, RunFault, SHARED_FROM};
-use snap_core::{Counted, Gate, Limit};
+use snap_check::{CheckOptions, RunFault};
+use snap_core::{Counted, Gate};
 use snap_names::Opener;
 use snap_threads::Cutting;
 use std::alloc::{AllocError, Global};
@@ -20,16 +20,14 @@ use std::io::Write;
 use std::thread::Threads;
 
 // What is asked of each text: its report is dropped, so it is a short one.
-fn options_of(limit: Limit, views: u32) -> FileOptions
-    ensures { result ≡ counting limit views }
+fn options_of(check: CheckOptions) -> FileOptions
+    ensures { result ≡ counting check }
 {
     FileOptions {
         format: Format::Plain,
         check: CheckOptions {
             quiet: true,
-            views,
-            limit,
-            alone_below: SHARED_FROM,
+            ..check
         },
     }
 }
@@ -68,13 +66,12 @@ fn sums_of<Rt: Threads + Sync, O: Opener, E: Write, G: Gate>(
     errors: &mut Counted<E>,
     cutting: Cutting,
     gate: &G,
-    limit: Limit,
-    views: u32,
+    check: CheckOptions,
 ) -> Result<Sums, AllocError>
-    ensures { IfOk result (Summed (O.opens opener.now) limit views names.now (E.contents (inner_of errors.old)) (E.contents (inner_of errors.new))
+    ensures { IfOk result (Summed (O.opens opener.now) check names.now (E.contents (inner_of errors.old)) (E.contents (inner_of errors.new))
         (failures_in errors.old) (failures_in errors.new)) }
 {
-    let options = options_of(limit, views);
+    let options = options_of(check);
     let mut sums = Sums::new();
     let mut from = 0;
     while from < names.len() {
@@ -87,8 +84,9 @@ fn sums_of<Rt: Threads + Sync, O: Opener, E: Write, G: Gate>(
 }
 
 /// Checks the texts of some names as `check_all` does, and writes no report. After all are judged, it writes the number of files with each
-/// status, and the first of them in the order of the names. It answers the greatest exit status. A history with fewer than `views`
-/// completed views counts as refused, and so does one beyond the limit of events. The reasons go to the error output as at `check_all`.
+/// status, and the first of them in the order of the names. It answers the greatest exit status. A history with fewer completed views
+/// than `check` asks for counts as refused, and so does one beyond its limit of events. The reasons go to the error output as at
+/// `check_all`.
 ///
 /// Memory holds what one round needs, and no report of an earlier round. Sums that can't be written end in `Write`.
 pub fn sum_all<Rt: Threads + Sync, O: Opener, W: Write, E: Write, G: Gate>(
@@ -100,17 +98,14 @@ pub fn sum_all<Rt: Threads + Sync, O: Opener, W: Write, E: Write, G: Gate>(
     errors: &mut Counted<E>,
     cutting: Cutting,
     gate: &G,
-    limit: Limit,
-    views: u32,
+    check: CheckOptions,
 ) -> Result<u8, RunFault>
-    ensures all { IfOk result (SumsAll (O.opens opener.now) limit views names.now (W.contents (inner_of writer.old)) (W.contents (inner_of writer.new))
+    ensures all { IfOk result (SumsAll (O.opens opener.now) check names.now (W.contents (inner_of writer.old)) (W.contents (inner_of writer.new))
         (E.contents (inner_of errors.old)) (E.contents (inner_of errors.new)) (failures_in errors.old) (failures_in errors.new)) }
-    ensures some { IfErr result (λ _. SumsSome (O.opens opener.now) limit views names.now (W.contents (inner_of writer.old)) (W.contents (inner_of writer.new))) }
+    ensures some { IfErr result (λ _. SumsSome (O.opens opener.now) check names.now (W.contents (inner_of writer.old)) (W.contents (inner_of writer.new))) }
     ensures counts { RunCounts 0 0 (failures_in writer.old) (failures_in writer.new) result }
 {
-    let sums = sums_of(
-        rt, alloc, opener, names, errors, cutting, gate, limit, views,
-    )?;
+    let sums = sums_of(rt, alloc, opener, names, errors, cutting, gate, check)?;
     let text = sums.text(alloc, names)?;
     if writer.send(&text).is_err() {
         return Err(RunFault::Write);

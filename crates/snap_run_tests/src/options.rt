@@ -1,9 +1,10 @@
 //! Checks that are quiet, or that ask for a number of completed views.
 use super::checks::{STALE_REPORT, STALE_VIEW, cutting, end_of, history, history_up_to, same};
-use snap_check::{CheckOptions, RunFault, SHARED_FROM, Status, check_run_with};
+use snap_check::{CheckOptions, RunFault, SHARED_FROM, SHARED_PIECES, Status, check_run_with};
 use snap_core::{Counted, Limit, OpenGate};
 use snap_files::FileOptions;
 use snap_testing::{Cup, Drip, Meeting};
+use snap_threads::Cutting;
 use std::alloc::Global;
 use std::io::{Read, Write};
 use std::test::Fail;
@@ -211,6 +212,24 @@ fn limits_are_1_to_1048576(rt: HostRuntime) {
     }
 }
 
+// Whether the workers of the check of a text of this many bytes meet at a gate.
+fn meets<Rt: Threads + Sync>(
+    rt: &Rt,
+    alloc: Global,
+    options: CheckOptions,
+    bytes: usize,
+    cutting: Cutting,
+    gate: &Meeting,
+) -> Result<bool, Fail> {
+    let text = history_up_to(alloc, STALE_VIEW, bytes)?;
+    let mut reader = Counted::new(text.as_bytes());
+    let mut writer = Counted::new(Vec::new(alloc));
+    let answer = check_run_with(rt, alloc, &mut reader, &mut writer, cutting, gate, options);
+    same(end_with(answer), "irregular")?;
+    same(str::from_utf8(&writer.into_inner())?, STALE_REPORT)?;
+    Ok(gate.was_held())
+}
+
 // With these options the check of a text of this many bytes has `workers` workers, who meet at their first pieces.
 fn expect_workers<Rt: Threads + Sync>(
     rt: &Rt,
@@ -220,21 +239,36 @@ fn expect_workers<Rt: Threads + Sync>(
     workers: u32,
 ) -> Result<(), Fail> {
     let gate = Meeting::of(workers, 0);
-    let text = history_up_to(alloc, STALE_VIEW, bytes)?;
-    let mut reader = Counted::new(text.as_bytes());
-    let mut writer = Counted::new(Vec::new(alloc));
     let cutting = cutting(1024, 2)?;
-    let answer = check_run_with(rt, alloc, &mut reader, &mut writer, cutting, &gate, options);
-    same(end_with(answer), "irregular")?;
-    same(str::from_utf8(&writer.into_inner())?, STALE_REPORT)?;
-    same(gate.was_held(), true)
+    same(meets(rt, alloc, options, bytes, cutting, &gate)?, true)
+}
+
+// The options that the program chooses, if the number of pieces is left to it or not.
+fn chosen(finer: bool) -> CheckOptions {
+    FileOptions::new(false, false, 0, Limit::usual(), finer).check
 }
 
 #[test]
 fn the_program_lets_one_worker_judge_a_short_text(rt: HostRuntime) -> Result<(), Fail> {
-    let options = FileOptions::new(false, false, 0, Limit::usual()).check;
-    expect_workers(&rt, rt.alloc(), options, SHARED_FROM - 1, 1)?;
-    expect_workers(&rt, rt.alloc(), options, SHARED_FROM, 2)
+    expect_workers(&rt, rt.alloc(), chosen(true), SHARED_FROM - 1, 1)?;
+    expect_workers(&rt, rt.alloc(), chosen(true), SHARED_FROM, 2)
+}
+
+// Whether one worker, for whom 8 pieces of a long text are asked for, draws a piece of this number.
+fn draws<Rt: Threads + Sync>(rt: &Rt, alloc: Global, finer: bool, piece: u32) -> Result<bool, Fail> {
+    let gate = Meeting::of(1, piece);
+    let cutting = cutting(8, 1)?;
+    meets(rt, alloc, chosen(finer), SHARED_FROM, cutting, &gate)
+}
+
+#[test]
+fn a_long_text_has_8_pieces_only_if_they_are_asked_for(rt: HostRuntime) -> Result<(), Fail> {
+    let alloc = rt.alloc();
+    for (finer, pieces) in [(false, 8), (true, SHARED_PIECES)] {
+        same(draws(&rt, alloc, finer, pieces - 1)?, true)?;
+        same(draws(&rt, alloc, finer, pieces)?, false)?;
+    }
+    Ok(())
 }
 
 #[test]

@@ -122,6 +122,7 @@ pub fn tell_run<Rt: Threads + Sync, R: Read, W: Write>(
         rt,
         cutting,
         alone_below: options.alone_below,
+        finer: options.finer,
     };
     let (status, line) = tell_input(&workers, alloc, name, reader, options.views, options.limit)?;
     match writer.send(&line) {

@@ -1,6 +1,6 @@
 -- What whole lines mean, where the parser reads them so.
 use Rattle.std.proofs.Common.{◌≡◌, ◌∙◌, ◌+◌, ◌≤◌, ℕ, Bool, List, Option, Some, None, [], true, false, ap, arith, codes, length, refl, subst, sym}
-use Rattle.std.specs.Prelude.{IsSome, decimal, option_map}
+use Rattle.std.specs.Prelude.{IsSome, decimal, is_none, option_map}
 use Rattle.std.proofs.lemmas.Bool.{false≢true}
 use Rattle.clap.specs.Words.{Row, Text, first_of, one_of, subcommand_of, takes}
 use Rattle.snap_core.specs.Limits.{IsLimit, event_limit}
@@ -117,6 +117,7 @@ pub record Fit (asked : Checking) (files : List Text) (pieces workers color : Op
   pub null_ends : asked.null ≡ true → IsSome asked.list
   pub input_once : inputs_in files + inputs_at asked.list ≤ 1
   pub pieces_are : SaysOr 8 pieces asked.pieces
+  pub finer_is : asked.options.finer ≡ is_none pieces
   pub workers_are : SaysOr 2 workers asked.workers
   pub color_is : SaysColor color asked.options.color
 
@@ -134,6 +135,7 @@ asks_check rows asked files unheeded fit said files_are = record {
   follow_is = ap (λ s. s.follow) said;
   no_windows = ap (λ s. s.windows) said;
   pieces_are = subst (λ text. SaysOr 8 text asked.pieces) (sym (ap (λ s. s.pieces) said)) fit.pieces_are;
+  finer_is = fit.finer_is ∙ ap is_none (sym (ap (λ s. s.pieces) said));
   workers_are = subst (λ text. SaysOr 2 text asked.workers) (sym (ap (λ s. s.workers) said)) fit.workers_are;
   views_are = ap (λ s. s.views) said;
   quiet_is = ap (λ s. s.quiet) said;
@@ -148,8 +150,8 @@ asks_check rows asked files unheeded fit said files_are = record {
 
 -- options of a plain check fit, of files of which at most one is standard input
 pub plain_fit : {color : Option Text} → (events : ℕ) (options : Options) (files : List Text) → IsLimit events → AreViews events options.views → IsOneForm options
-    → SaysColor color options.color → inputs_in files ≤ 1 → Fit (record plain_check { events = events; options = options }) files None None color
-plain_fit events options files events_fit views_fit one_form color once = record {
+    → options.finer ≡ true → SaysColor color options.color → inputs_in files ≤ 1 → Fit (record plain_check { events = events; options = options }) files None None color
+plain_fit events options files events_fit views_fit one_form finer color once = record {
   pieces_fit = (omega arith, omega arith);
   workers_fit = (omega arith, omega arith);
   events_fit = events_fit;
@@ -158,6 +160,7 @@ plain_fit events options files events_fit views_fit one_form color once = record
   null_ends = λ null. absurd (false≢true null);
   input_once = omega (arith, once);
   pieces_are = refl;
+  finer_is = finer;
   workers_are = refl;
   color_is = color;
 }

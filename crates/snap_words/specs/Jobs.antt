@@ -1,5 +1,5 @@
 -- What the words of a command line ask for.
-use Rattle.std.specs.Prelude.{◌≡◌, ◌-◌, ◌*◌, ◌/◌, ◌<◌, ◌≤◌, ◌+◌, ◌||◌, min, ℕ, Bool, true, false, List, [], ◌∷◌, Option, Some, None, IsSome, codes, decimal, is_some, if◌then◌else◌, length, map, option_map}
+use Rattle.std.specs.Prelude.{◌≡◌, ◌-◌, ◌*◌, ◌/◌, ◌<◌, ◌≤◌, ◌+◌, ◌||◌, min, ℕ, Bool, true, false, List, [], ◌∷◌, Option, Some, None, IsSome, codes, decimal, is_none, is_some, if◌then◌else◌, length, map, option_map}
 use Rattle.std.specs.Global.{Vec}
 use Rattle.std.specs.List.{count_by}
 use Rattle.std.specs.Str.{bytes_eq}
@@ -75,9 +75,9 @@ pub record Checking : Type 0 where
   pub null : Bool
   pub folder : Option Text
 
--- the whole report, of any number of completed views
+-- the whole report, of any number of completed views, in as many pieces as the program chooses for a long text
 abbrev pub no_options : Options
-no_options = record { quiet = false; views = 0; json = false; summary = false; no_progress = false; color = Auto }
+no_options = record { quiet = false; views = 0; json = false; summary = false; no_progress = false; color = Auto; finer = true }
 
 -- what is asked for if no option is given
 abbrev pub plain_check : Checking
@@ -246,9 +246,9 @@ given_or_none (Some names) = names
 abbrev pub files_of : List Row → List Text
 files_of rows = given_or_none (all_of (codes "file") rows)
 
--- The options of `check` have these numbers, which are in their ranges. Each flag is given or not, and the format and the colours
--- have their words. One form of answer is asked for, and none by windows. Names end with a zero byte only in a list, and standard
--- input is named at most once.
+-- The options of `check` have these numbers, which are in their ranges. The number of pieces of a long text is left to the program
+-- exactly if --pieces is not given. Each flag is given or not, and the format and the colours have their words. One form of answer
+-- is asked for, and none by windows. Names end with a zero byte only in a list, and standard input is named at most once.
 pub record AsksCheck (rows : List Row) (asked : Checking) : Type 0 where
   pub pieces_fit : IsPieces asked.pieces
   pub workers_fit : IsWorkers asked.workers
@@ -260,6 +260,7 @@ pub record AsksCheck (rows : List Row) (asked : Checking) : Type 0 where
   pub follow_is : one_of (codes "follow") rows ≡ Some (flag_text false)
   pub no_windows : names_windows rows ≡ false
   pub pieces_are : SaysOr 8 (one_of (codes "pieces") rows) asked.pieces
+  pub finer_is : asked.options.finer ≡ is_none (one_of (codes "pieces") rows)
   pub workers_are : SaysOr 2 (one_of (codes "workers") rows) asked.workers
   pub views_are : one_of (codes "views") rows ≡ Some (decimal asked.options.views)
   pub quiet_is : one_of (codes "quiet") rows ≡ Some (flag_text asked.options.quiet)

@@ -86,7 +86,7 @@ const WORDS: &[Word<'static>] = &[
             least: 1,
             most: PIECE_LIMIT as i64,
         },
-        help: "Into how many pieces the views are cut, from 1 to 1024: 8 where it is not given",
+        help: "Into how many pieces the views of a long history are cut, from 1 to 1024: 256 where it is not given",
     },
     Word {
         id: "workers",

@@ -11,7 +11,9 @@ use crate::color::color_in;
 use crate::drawing::{Form, form_in};
 use crate::input::Input;
 use crate::job::{Job, Options, Windows};
-use crate::option_values::{events_in, flag_in, is_plain, json_in, limit_in, number_in, number_or};
+use crate::option_values::{
+    events_in, flag_in, is_given, is_plain, json_in, limit_in, number_in, number_or,
+};
 use crate::ranges::{are_rounds, are_views, is_one_form, is_window, rounds_for, window_for};
 use crate::refusals::{names_unheeded, names_windows};
 use clap::ArgMatches;
@@ -33,6 +35,7 @@ fn options_in(matches: &ArgMatches<'_>) -> Option<Options>
     let summary = flag_in(matches, "summary");
     let no_progress = flag_in(matches, "no-progress");
     let color = color_in(matches)?;
+    let finer = !is_given(matches, "pieces");
     Some(Options {
         quiet,
         views,
@@ -40,6 +43,7 @@ fn options_in(matches: &ArgMatches<'_>) -> Option<Options>
         summary,
         no_progress,
         color,
+        finer,
     })
 }
 

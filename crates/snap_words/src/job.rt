@@ -33,6 +33,8 @@ pub struct Options {
     pub no_progress: bool,
     /// When the verdicts have colours.
     pub color: Color,
+    /// Whether the program chooses the number of pieces of a long text, since no `--pieces` is given.
+    pub finer: bool,
 }
 
 /// The options of a check that judges a recording while it grows.

@@ -8,11 +8,12 @@ ghost use Rattle.snap_words.specs.Lines.{Means};
 ghost use Rattle.snap_words.specs.declared.color.Color.TheVariants.{Never};
 ghost use Rattle.snap_words.specs.declared.drawing.Form.TheVariants.{Lines, Page, Svg};
 
-/// What lines of `check` ask for: 8 pieces and 2 workers if nothing else is said, and what each option says. A window alone asks
-/// for no job. Neither does an option that has no use with `--follow`.
+/// What lines of `check` ask for: 8 pieces and 2 workers if nothing else is said, and what each option says. If `--pieces 8` is said,
+/// the program chooses no other number. A window alone asks for no job. Neither does an option that has no use with `--follow`.
 pub fn check_lines()
     ensures alone { (name : Text) → Means (name ∷ codes "check" ∷ []) (codes "check") (λ rows. AsksCheck rows plain_check) [] }
-    ensures cut { (name : Text) → Means (name ∷ codes "check" ∷ codes "--pieces" ∷ codes "3" ∷ codes "--workers" ∷ codes "4" ∷ []) (codes "check") (λ rows. AsksCheck rows (record plain_check { pieces = 3; workers = 4 })) [] }
+    ensures cut { (name : Text) → Means (name ∷ codes "check" ∷ codes "--pieces" ∷ codes "3" ∷ codes "--workers" ∷ codes "4" ∷ []) (codes "check") (λ rows. AsksCheck rows (record plain_check { pieces = 3; workers = 4; options = record no_options { finer = false } })) [] }
+    ensures pieces { (name : Text) → Means (name ∷ codes "check" ∷ codes "--pieces" ∷ codes "8" ∷ []) (codes "check") (λ rows. AsksCheck rows (record plain_check { options = record no_options { finer = false } })) [] }
     ensures quiet { (name : Text) → Means (name ∷ codes "check" ∷ codes "--quiet" ∷ []) (codes "check") (λ rows. AsksCheck rows (record plain_check { options = record no_options { quiet = true } })) [] }
     ensures views { (name : Text) → Means (name ∷ codes "check" ∷ codes "--views" ∷ codes "5" ∷ []) (codes "check") (λ rows. AsksCheck rows (record plain_check { options = record no_options { views = 5 } })) [] }
     ensures json { (name : Text) → Means (name ∷ codes "check" ∷ codes "--format" ∷ codes "json" ∷ []) (codes "check") (λ rows. AsksCheck rows (record plain_check { options = record no_options { json = true } })) [] }

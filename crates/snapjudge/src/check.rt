@@ -50,30 +50,15 @@ fn answer_all<Rt: Threads + Sync, O: Opener, W: Write, E: Write>(
     limit: Limit,
     asked: Options,
 ) -> Result<u8, RunFault> {
+    let options = file_options(limit, asked);
     if asked.summary {
+        let check = options.check;
         sum_all(
-            rt,
-            alloc,
-            opener,
-            names,
-            writer,
-            errors,
-            cutting,
-            &OpenGate,
-            limit,
-            asked.views,
+            rt, alloc, opener, names, writer, errors, cutting, &OpenGate, check,
         )
     } else {
         check_all(
-            rt,
-            alloc,
-            opener,
-            names,
-            writer,
-            errors,
-            cutting,
-            &OpenGate,
-            file_options(limit, asked),
+            rt, alloc, opener, names, writer, errors, cutting, &OpenGate, options,
         )
     }
 }

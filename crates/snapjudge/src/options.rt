@@ -10,6 +10,7 @@ use snap_words::Options;
 pub(crate) fn file_options(limit: Limit, asked: Options) -> FileOptions
     ensures format { MatchBool asked.json (result.format ≡ Json) (result.format ≡ Plain) }
     ensures check { (result.check.quiet ≡ asked.quiet) × (result.check.views ≡ asked.views) × (result.check.limit ≡ limit) }
+    ensures pieces { result.check.finer ≡ asked.finer }
 {
-    FileOptions::new(asked.json, asked.quiet, asked.views, limit)
+    FileOptions::new(asked.json, asked.quiet, asked.views, limit, asked.finer)
 }

@@ -3,7 +3,7 @@ use Rattle.std.specs.Prelude.{◌≡◌, ℕ, max, List, [], ◌∷◌, length, 
 use Rattle.std.specs.Global.{Vec}
 use Rattle.snap_files.specs.declared.sums.Kind.{Kind}
 use Rattle.snap_files.specs.declared.sums.Sums.{Sums}
-use Rattle.snap_core.specs.declared.limit.Limit.{Limit}
+use Rattle.snap_check.specs.declared.options.CheckOptions.{CheckOptions}
 use Rattle.snap_files.specs.Files.{ArePages, Opens, Page, Told, said}
 use Rattle.snap_files.specs.Sums.{Judged, counting, has_code, judged_of}
 
@@ -33,8 +33,8 @@ pub record AreSums (files : List Judged) (sums : Sums) : Type 0 where
   pub failed : IsKind 4 files sums.failed
 
 -- the names that were counted so far
-pub record Summed (opens : Opens) (limit : Limit) (views : ℕ) (names : List (Vec ℕ)) (told_old told_new : Option (List ℕ)) (failures_old failures_new : ℕ) (sums : Sums) : Type 0 where
+pub record Summed (opens : Opens) (check : CheckOptions) (names : List (Vec ℕ)) (told_old told_new : Option (List ℕ)) (failures_old failures_new : ℕ) (sums : Sums) : Type 0 where
   pub pages : List Page
-  pub each : ArePages opens (counting limit views) names pages
-  pub told : Told told_old told_new failures_old failures_new (said (counting limit views) pages)
+  pub each : ArePages opens (counting check) names pages
+  pub told : Told told_old told_new failures_old failures_new (said (counting check) pages)
   pub sums_are : AreSums (judged_of pages) sums

@@ -12,39 +12,55 @@ use Rattle.snap_words.proofs.lines.check_lines.Goals as goal
 
 -- what each line asks for fits; this is shown apart, where the parser is not computed
 nothing_fits : Fit plain_check [] None None None
-nothing_fits = plain_fit _ _ _ (omega arith, omega arith) (omega arith) (whole _ refl refl) refl (omega arith)
+nothing_fits = plain_fit _ _ _ (omega arith, omega arith) (omega arith) (whole _ refl refl) refl refl (omega arith)
 
-cut_fits : Fit (record plain_check { pieces = 3; workers = 4 }) [] (Some (decimal 3)) (Some (decimal 4)) None
+cut_fits : Fit (record plain_check { pieces = 3; workers = 4; options = record no_options { finer = false } }) [] (Some (decimal 3)) (Some (decimal 4)) None
 cut_fits = record {
   pieces_fit = (omega arith, omega arith);
   workers_fit = (omega arith, omega arith);
   events_fit = nothing_fits.events_fit;
   views_fit = nothing_fits.views_fit;
-  one_form = nothing_fits.one_form;
+  one_form = whole _ refl refl;
   null_ends = nothing_fits.null_ends;
   input_once = nothing_fits.input_once;
   pieces_are = refl;
+  finer_is = refl;
+  workers_are = refl;
+  color_is = refl;
+}
+
+pieces_fits : Fit (record plain_check { options = record no_options { finer = false } }) [] (Some (decimal 8)) None None
+pieces_fits = record {
+  pieces_fit = nothing_fits.pieces_fit;
+  workers_fit = nothing_fits.workers_fit;
+  events_fit = nothing_fits.events_fit;
+  views_fit = nothing_fits.views_fit;
+  one_form = whole _ refl refl;
+  null_ends = nothing_fits.null_ends;
+  input_once = nothing_fits.input_once;
+  pieces_are = refl;
+  finer_is = refl;
   workers_are = refl;
   color_is = refl;
 }
 
 quiet_fits : Fit (record plain_check { options = record no_options { quiet = true } }) [] None None None
-quiet_fits = plain_fit _ _ _ (omega arith, omega arith) (omega arith) (record { object = λ json. absurd (false≢true json); sums = λ sums. absurd (false≢true sums) }) refl (omega arith)
+quiet_fits = plain_fit _ _ _ (omega arith, omega arith) (omega arith) (record { object = λ json. absurd (false≢true json); sums = λ sums. absurd (false≢true sums) }) refl refl (omega arith)
 
 views_fits : Fit (record plain_check { options = record no_options { views = 5 } }) [] None None None
-views_fits = plain_fit _ _ _ (omega arith, omega arith) (omega arith) (whole _ refl refl) refl (omega arith)
+views_fits = plain_fit _ _ _ (omega arith, omega arith) (omega arith) (whole _ refl refl) refl refl (omega arith)
 
 json_fits : Fit (record plain_check { options = record no_options { json = true } }) [] None None None
-json_fits = plain_fit _ _ _ (omega arith, omega arith) (omega arith) (whole _ refl refl) refl (omega arith)
+json_fits = plain_fit _ _ _ (omega arith, omega arith) (omega arith) (whole _ refl refl) refl refl (omega arith)
 
 summary_fits : Fit (record plain_check { options = record no_options { summary = true } }) [] None None None
-summary_fits = plain_fit _ _ _ (omega arith, omega arith) (omega arith) (record { object = λ _. refl; sums = λ _. (refl, refl) }) refl (omega arith)
+summary_fits = plain_fit _ _ _ (omega arith, omega arith) (omega arith) (record { object = λ _. refl; sums = λ _. (refl, refl) }) refl refl (omega arith)
 
 color_fits : Fit (record plain_check { options = record no_options { color = Never } }) [] None None (Some (codes "never"))
-color_fits = plain_fit _ _ _ (omega arith, omega arith) (omega arith) (whole _ refl refl) refl (omega arith)
+color_fits = plain_fit _ _ _ (omega arith, omega arith) (omega arith) (whole _ refl refl) refl refl (omega arith)
 
 events_fits : Fit (record plain_check { events = 1048576 }) [] None None None
-events_fits = plain_fit _ _ _ (omega arith, omega arith) (omega arith) (whole _ refl refl) refl (omega arith)
+events_fits = plain_fit _ _ _ (omega arith, omega arith) (omega arith) (whole _ refl refl) refl refl (omega arith)
 
 abbrev named : List Text
 named = codes "a.csv" ∷ codes "-" ∷ []
@@ -52,7 +68,7 @@ named = codes "a.csv" ∷ codes "-" ∷ []
 named_fits : Fit plain_check named None None None
 named_fits =
     let once : inputs_in named ≡ 1 = refl in
-    plain_fit _ _ _ (omega arith, omega arith) (omega arith) (whole _ refl refl) refl (omega (arith, once))
+    plain_fit _ _ _ (omega arith, omega arith) (omega arith) (whole _ refl refl) refl refl (omega (arith, once))
 
 pub returns-clause-alone : goal.returns-clause-alone
 unfolding clap_on_literals digits
@@ -60,7 +76,11 @@ returns-clause-alone c = λ name. check_of (name ∷ codes "check" ∷ []) plain
 
 pub returns-clause-cut : goal.returns-clause-cut
 unfolding clap_on_literals digits
-returns-clause-cut c = λ name. check_of (name ∷ codes "check" ∷ codes "--pieces" ∷ codes "3" ∷ codes "--workers" ∷ codes "4" ∷ []) (record plain_check { pieces = 3; workers = 4 }) [] true cut_fits refl refl refl refl
+returns-clause-cut c = λ name. check_of (name ∷ codes "check" ∷ codes "--pieces" ∷ codes "3" ∷ codes "--workers" ∷ codes "4" ∷ []) (record plain_check { pieces = 3; workers = 4; options = record no_options { finer = false } }) [] true cut_fits refl refl refl refl
+
+pub returns-clause-pieces : goal.returns-clause-pieces
+unfolding clap_on_literals digits
+returns-clause-pieces c = λ name. check_of (name ∷ codes "check" ∷ codes "--pieces" ∷ codes "8" ∷ []) (record plain_check { options = record no_options { finer = false } }) [] true pieces_fits refl refl refl refl
 
 pub returns-clause-quiet : goal.returns-clause-quiet
 unfolding clap_on_literals digits

@@ -6,7 +6,7 @@ use Rattle.snap_words.proofs.Meanings.{Fit, check_of, plain_fit, whole}
 use Rattle.snap_words.proofs.lines.source_lines.Goals as goal
 
 plain_fits : Fit plain_check [] None None None
-plain_fits = plain_fit _ _ _ (omega arith, omega arith) (omega arith) (whole _ refl refl) refl (omega arith)
+plain_fits = plain_fit _ _ _ (omega arith, omega arith) (omega arith) (whole _ refl refl) refl refl (omega arith)
 
 fits : Fit (record plain_check { list = Some (codes "-"); null = true; folder = Some (codes "runs") }) [] None None None
 fits = record {
@@ -18,6 +18,7 @@ fits = record {
   null_ends = λ _. refl;
   input_once = omega arith;
   pieces_are = refl;
+  finer_is = refl;
   workers_are = refl;
   color_is = refl;
 }
