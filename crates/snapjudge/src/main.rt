@@ -32,7 +32,7 @@ fn failed(rt: &HostRuntime, fault: &RunFault) -> u8
 fn run<Rt: Threads + Wait + Sync>(rt: &Rt, host: &HostRuntime) -> Result<u8, Failure> {
     let words = words_of(host, host.alloc())?;
     if asks_version(&words.texts) {
-        return Ok(write_version(host)?);
+        return write_version(host);
     }
     done(rt, host, wanted_by(host.alloc(), words)?)
 }

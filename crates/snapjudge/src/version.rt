@@ -2,6 +2,9 @@
 ghost use Rattle.std.specs.Prelude.{◌≡◌, IfOk};
 
 use snap_check::RunFault;
+use snap_commands::Failure;
+use snap_terminal::Outlet;
+use std::io::Write;
 
 /// The number, which the file VERSION of the repository has too.
 const VERSION: &str = "1.0.0";
@@ -15,11 +18,12 @@ pub(crate) fn asks_version(words: &[String]) -> bool {
 }
 
 /// Writes the version, and gives the exit status.
-pub(crate) fn write_version(rt: &HostRuntime) -> Result<u8, RunFault>
+pub(crate) fn write_version(host: &HostRuntime) -> Result<u8, Failure>
     ensures { IfOk result (λ code. code ≡ 0) }
 {
-    match println!(rt; "snapjudge {VERSION}") {
+    let mut outlet = Outlet::new(host.stdout());
+    match writeln!(outlet, "snapjudge {VERSION}") {
         Ok(()) => Ok(0),
-        Err(_) => Err(RunFault::Write),
+        Err(_) => Err(Failure::of_run(RunFault::Write, &outlet)),
     }
 }
