@@ -24,7 +24,7 @@ complete -c snapjudge -n '__fish_seen_subcommand_from shrink' -l draw -d 'Write 
 complete -c snapjudge -n '__fish_seen_subcommand_from explain' -l draw -d 'Write a picture of the calls below'
 complete -c snapjudge -n '__fish_seen_subcommand_from draw' -l svg -d 'Write SVG without a page'
 complete -c snapjudge -n '__fish_seen_subcommand_from draw' -l text -d 'Write lines of characters'
-complete -c snapjudge -n '__fish_seen_subcommand_from stats' -x -l format -a 'plain json' -d 'Form of the answer'
+complete -c snapjudge -n '__fish_seen_subcommand_from stats' -x -l format -a 'plain json' -d 'Form of the answers'
 complete -c snapjudge -n '__fish_seen_subcommand_from record' -f
 complete -c snapjudge -n '__fish_seen_subcommand_from record' -x -l workers -d 'Threads, 2 to 8'
 complete -c snapjudge -n '__fish_seen_subcommand_from record' -x -l rounds -d 'Rounds, 1 to 2048'

@@ -13,7 +13,7 @@ done
 tells "check --help" "snapjudge check [OPTIONS] [FILE]..."
 tells "shrink --help" "snapjudge shrink [OPTIONS] [FILE]"
 tells "explain old.csv --help" "snapjudge explain [OPTIONS] [FILE]"
-tells "stats old.csv --help" "snapjudge stats [OPTIONS] [FILE]"
+tells "stats old.csv --help" "snapjudge stats [OPTIONS] [FILE]..."
 tells "draw --svg --help" "snapjudge draw [OPTIONS] [FILE]"
 for file in old.csv none.csv; do
   expect "$file without a command" 5 "" ./second $file

@@ -39,6 +39,8 @@ for shell in bash zsh fish; do
     completes "snapjudge $command " "one.csv two.csv"
     completes "snapjudge $command t" two.csv
   done
-  completes "snapjudge check one.csv t" two.csv
+  for command in check stats; do
+    completes "snapjudge $command one.csv t" two.csv
+  done
 done
 cd ..

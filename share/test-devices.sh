@@ -9,7 +9,7 @@ for files in old.csv 'old.csv old.csv'; do
       exit \$(cat gone)"
   done
 done
-for command in "shrink old.csv" "shrink --draw old.csv" "explain old.csv" "explain --draw old.csv" "draw old.csv" "draw --text old.csv" "stats old.csv" "stats --format json old.csv" "record --rounds 2" --version; do
+for command in "shrink old.csv" "shrink --draw old.csv" "explain old.csv" "explain --draw old.csv" "draw old.csv" "draw --text old.csv" "stats old.csv" "stats --format json old.csv" "stats old.csv old.csv" "record --rounds 2" --version; do
   expect "$command, and a full disk" 4 "" sh -c "./second $command >/dev/full"
   expect "$command, and no output" 4 "" sh -c "./second $command >&-"
   expect "$command, and a reader that has gone" 4 "" sh -c "{ sleep 0.3; ./second $command; echo \$? >gone; } | :

@@ -56,8 +56,41 @@ $named_stale" ./second check "$broken" "a b.csv"
 rm "$broken"
 expect "standard input among files" 2 "$(report_of stale-view '-: ' | sed '$d')
 $named_inversion" sh -c './second check - old.csv <"a b.csv"'
-expect "standard input twice" 5 "" ./second check - old.csv -
-expect_said "the reason" "error: - is standard input, and can be named once"
+for command in check stats; do
+  expect "standard input twice for $command" 5 "" ./second $command - old.csv -
+  expect_said "the reason" "error: - is standard input, and can be named once"
+done
+
+# What files have shown, together as alone. A name stands before each line, and in each object.
+cp "$examples/skipped-number.csv" refused.csv
+shown=$(./second stats old.csv | sed 's/^/old.csv: /')
+stale_shown=$(./second stats "a b.csv" | sed 's/^/a b.csv: /')
+object=$(./second stats --format json old.csv)
+stale_object=$(./second stats --format json "a b.csv")
+expect "what two files have shown" 0 "$shown
+$stale_shown
+" ./second stats old.csv "a b.csv"
+expect "what one file has shown, named twice" 0 "$shown
+$shown
+" ./second stats old.csv old.csv
+expect "objects of what two files have shown" 0 "$stale_object
+$object
+" ./second stats --format json "a b.csv" old.csv
+expect "what a file has shown, beside one that is refused" 3 "refused.csv: refused record 4: number
+$shown
+" ./second stats refused.csv old.csv
+expect "what a file has shown, beside one that is not there" 4 "$shown
+refused.csv: refused record 4: number
+" ./second stats none.csv old.csv refused.csv
+expect_said "its name and the reason" "snapjudge: none.csv: no such file"
+expect "an object of a file that is not there" 4 "{\"name\":\"none.csv\",\"status\":4,\"trouble\":\"no such file\"}
+$object
+" ./second stats --format json none.csv old.csv
+expect_said "its name and the reason" "snapjudge: none.csv: no such file"
+expect "what standard input has shown among files" 0 "$(printf '%s\n' "$stale_shown" | sed 's/^a b.csv/-/')
+$shown
+" sh -c './second stats - old.csv <"a b.csv"'
+rm refused.csv
 mkfifo pipe
 expect "a pipe among files" 2 "$(report_of stale-view 'pipe: ' | sed '$d')
 $named_inversion" sh -c 'cat "a b.csv" >pipe & ./second check pipe old.csv'

@@ -11,12 +11,13 @@ use Rattle.snap_verdict.specs.declared.status.Status.{Status}
 use Rattle.snap_verdict.specs.Statuses.{code_of}
 use Rattle.snap_json.specs.Objects.{trouble_json}
 use Rattle.snap_json.specs.Values.{IsLineOf}
+use Rattle.snap_runs.specs.Stats.{IsCounted}
 use Rattle.snap_runs.specs.Telling.{IsTold}
 use Rattle.snap_names.specs.Said.{named_lines, trouble_line_text, trouble_text}
 use Rattle.snap_names.specs.Shown.{shown}
 use Rattle.snap_files.specs.declared.format.FileOptions.{FileOptions}
 use Rattle.snap_files.specs.declared.format.Format.{Format}
-use Rattle.snap_files.specs.declared.format.Format.TheVariants.{Plain, Json}
+use Rattle.snap_files.specs.declared.format.Format.TheVariants.{Plain, Json, Counts, CountsObject}
 use Rattle.snap_names.specs.declared.opener.Trouble.{Trouble}
 use Rattle.snap_names.specs.declared.opener.Trouble.TheVariants.{Memory}
 
@@ -24,9 +25,13 @@ use Rattle.snap_names.specs.declared.opener.Trouble.TheVariants.{Memory}
 abbrev pub Answer : Type 0
 Answer = Result (Option Status) Trouble
 
+-- what is written alone, but each line with the name before it
+abbrev pub IsNamed : (List ℕ → Type 0) → List ℕ → List ℕ → Type 0
+IsNamed Is name out = (alone : List ℕ) × Is alone × (out ≡ named_lines name alone)
+
 -- the report of a text, each line with the name before it
 abbrev pub IsNamedReport : CheckOptions → List ℕ → List ℕ → Option Status → List ℕ → Type 0
-IsNamedReport options name text status out = (report : List ℕ) × IsReportWith options text status report × (out ≡ named_lines name report)
+IsNamedReport options name text status out = IsNamed (IsReportWith options text status) name out
 
 -- What a name may be opened as: a text, whose bytes are known or not, or a trouble. An opener gives a text the trouble of a failed
 -- read only for a reader whose count of failures rose.
@@ -46,10 +51,21 @@ IsObject options name text None out = ⊥
 abbrev pub object_name : List ℕ → List ℕ
 object_name name = utf8_lossy name
 
--- what is answered and written for an opened text: its named report, or its object alone
+-- what a text has shown: an object with a name or lines, and a status in each case
+abbrev pub IsCounts : Option (List ℕ) → ℕ → List ℕ → Option Status → List ℕ → Type 0
+IsCounts name limit text (Some status) out = IsCounted name limit text status out
+IsCounts name limit text None out = ⊥
+
+-- what a text has shown, each line with the name before it
+abbrev pub IsNamedCounts : ℕ → List ℕ → List ℕ → Option Status → List ℕ → Type 0
+IsNamedCounts limit name text status out = IsNamed (IsCounts None limit text status) name out
+
+-- what is answered and written for an opened text: its report or its counts, as named lines or as an object alone
 abbrev pub IsTextPage : Format → CheckOptions → List ℕ → List ℕ → Option Status → List ℕ → Type 0
 IsTextPage Plain options name text status out = IsNamedReport options name text status out
 IsTextPage Json options name text status out = IsObject options (object_name name) text status out
+IsTextPage Counts options name text status out = IsNamedCounts options.limit.events name text status out
+IsTextPage CountsObject options name text status out = IsCounts (Some (object_name name)) options.limit.events text status out
 
 -- the exit status of a name
 abbrev pub answer_code : Answer → ℕ
@@ -57,11 +73,21 @@ answer_code (Ok (Some status)) = code_of status
 answer_code (Ok None) = 3
 answer_code (Err trouble) = 4
 
--- For a name that met a trouble nothing is written, or its object. If memory does not suffice for the object, memory is the trouble.
+-- nothing is written for a name that met a trouble
+abbrev pub IsNoPage : Trouble → Trouble → List ℕ → Type 0
+IsNoPage met trouble out = (trouble ≡ met) × (out ≡ [])
+
+-- An object is written for it. If memory does not suffice for the object, memory is the trouble, and nothing is written.
+abbrev pub IsTroubleObject : List ℕ → Trouble → Trouble → List ℕ → Type 0
+IsTroubleObject name met trouble out =
+    ((trouble ≡ met) × IsLineOf (trouble_json (object_name name) (answer_code (Err met)) (trouble_text met)) out) ⊎ IsNoPage Memory trouble out
+
+-- for a name that met a trouble nothing is written, or its object
 abbrev pub IsTroublePage : Format → List ℕ → Trouble → Trouble → List ℕ → Type 0
-IsTroublePage Plain name met trouble out = (trouble ≡ met) × (out ≡ [])
-IsTroublePage Json name met trouble out =
-    ((trouble ≡ met) × IsLineOf (trouble_json (object_name name) (answer_code (Err met)) (trouble_text met)) out) ⊎ ((trouble ≡ Memory) × (out ≡ []))
+IsTroublePage Plain name met trouble out = IsNoPage met trouble out
+IsTroublePage Json name met trouble out = IsTroubleObject name met trouble out
+IsTroublePage Counts name met trouble out = IsNoPage met trouble out
+IsTroublePage CountsObject name met trouble out = IsTroubleObject name met trouble out
 
 -- what is answered and written for a name
 abbrev pub IsPage : Opens → FileOptions → List ℕ → Answer → List ℕ → Type 0

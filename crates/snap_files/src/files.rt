@@ -1,4 +1,4 @@
-//! The check of several texts that writes each report or object.
+//! The answers for several texts.
 ghost use Rattle.std.specs.Prelude.{◌≡◌, IfOk, IfErr, length};
 ghost use Rattle.snap_core.specs.Counting.{failures_in, inner_of};
 ghost use Rattle.snap_core.specs.Sending.{SendsFront};
@@ -55,6 +55,8 @@ fn write_round<W: Write, E: Write>(
 ///
 /// If objects are asked for, each name has one in place of its report, as `tell_run` writes it, also without a status. If memory
 /// does not suffice for the object of a name without a status, lack of memory is its reason. Then nothing is written for it.
+///
+/// If it is asked what the texts have shown, each name has that in place of its report, as `stats_run` writes it.
 ///
 /// A report that can't be written ends the check with `Write`. A reason for which memory does not suffice ends it with `Memory`.
 pub fn check_all<Rt: Threads + Sync, O: Opener, W: Write, E: Write, G: Gate>(

@@ -1,23 +1,27 @@
-//! The options of a check of several texts.
+//! What is asked of several texts.
 ghost use Rattle.std.specs.Prelude.{◌≡◌, MatchBool};
 ghost use Rattle.snap_check.specs.declared.workers.TheConstants.{SHARED_FROM};
 
 use snap_check::{CheckOptions, SHARED_FROM};
 use snap_core::Limit;
 
-/// The form in which the answer for a text is written.
+/// What is answered for a text, and in which form.
 #[derive(Clone, Copy)]
 pub enum Format {
-    /// As a report, each line with the name before it.
+    /// Its report, each line with the name before it.
     Plain,
-    /// As a JSON object on a line, which has the name.
+    /// Its report as a JSON object on a line, which has the name.
     Json,
+    /// What it has shown, each line with the name before it.
+    Counts,
+    /// What it has shown, as a JSON object on a line, which has the name.
+    CountsObject,
 }
 
-/// The options of a check of several texts.
+/// What is asked of several texts.
 #[derive(Clone, Copy)]
 pub struct FileOptions {
-    /// The form of the answers.
+    /// What is answered for each text.
     pub format: Format,
     /// The options of the check of each text. An object is always whole, so `quiet` changes only reports.
     pub check: CheckOptions,
@@ -42,6 +46,23 @@ impl FileOptions {
                 alone_below: SHARED_FROM,
                 finer,
             },
+        }
+    }
+
+    /// The options that ask what each text has shown, by objects if `json` is set, and else by lines. A history may have as many
+    /// events as the limit says.
+    pub fn counts(json: bool, limit: Limit) -> FileOptions
+        ensures format { MatchBool json (result.format ≡ Format.CountsObject) (result.format ≡ Format.Counts) }
+        ensures limit { result.check.limit ≡ limit }
+        ensures alone { result.check.alone_below ≡ SHARED_FROM }
+    {
+        FileOptions {
+            format: if json {
+                Format::CountsObject
+            } else {
+                Format::Counts
+            },
+            ..FileOptions::new(json, false, 0, limit, true)
         }
     }
 }

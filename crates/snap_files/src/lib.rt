@@ -1,6 +1,7 @@
-//! The check of several named texts: each line of a report has the name before it, or a JSON object names its text.
+//! The answers for several named texts: each line of a report has the name before it, or a JSON object names its text.
 #![tactic(auto)]
 
+mod counts;
 mod files;
 mod format;
 mod page;

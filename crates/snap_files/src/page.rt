@@ -8,6 +8,7 @@ ghost use Rattle.snap_files.specs.Files.{IsNamedReport, IsObject, IsPage, IsText
 ghost use Rattle.snap_files.specs.inside.Files.{BlamesReader, IsTroubleBy};
 ghost use Rattle.snap_names.specs.Said.{trouble_text};
 
+use crate::counts::{counts_object, named_counts};
 use crate::format::{FileOptions, Format};
 use snap_check::{CheckOptions, RunFault, check_run_with};
 use snap_core::{Counted, Gate};
@@ -88,8 +89,8 @@ fn object<Rt: Threads + Sync, R: Read>(
     Ok((Some(status), writer.into_inner()))
 }
 
-// A name as an object has it, in Unicode.
-fn object_name(alloc: Global, name: &[u8]) -> Result<String, AllocError>
+/// A name as an object has it, in Unicode.
+pub(crate) fn object_name(alloc: Global, name: &[u8]) -> Result<String, AllocError>
     ensures { IfOk result (λ text. string_bytes text ≡ object_name name.now) }
 {
     String::from_utf8_lossy(alloc, name)
@@ -127,6 +128,8 @@ fn text_page<Rt: Threads + Sync, R: Read, G: Gate>(
     match options.format {
         Format::Plain => named_report(rt, alloc, name, reader, cutting, gate, options.check),
         Format::Json => shown_object(rt, alloc, name, reader, cutting, options.check),
+        Format::Counts => named_counts(rt, alloc, name, reader, cutting, options.check),
+        Format::CountsObject => counts_object(rt, alloc, name, reader, cutting, options.check),
     }
 }
 
@@ -143,8 +146,8 @@ fn trouble_page(alloc: Global, name: &[u8], met: Trouble, format: Format) -> (Tr
     ensures { IsTroublePage format name.now met result.0 result.1.items }
 {
     match format {
-        Format::Plain => (met, Vec::new(alloc)),
-        Format::Json => {
+        Format::Plain | Format::Counts => (met, Vec::new(alloc)),
+        Format::Json | Format::CountsObject => {
             match trouble_object(alloc, name, met) {
                 Ok(line) => (met, line),
                 Err(_) => (Trouble::Memory, Vec::new(alloc)),

@@ -1,4 +1,4 @@
-//! Checks of several named texts from memory.
+//! Checks and counts of several named texts from memory.
 ghost use Rattle.std.specs.Prelude.{⊤};
 
 use super::checks::same;
@@ -202,6 +202,40 @@ fn each_name_has_its_object(rt: HostRuntime) -> Result<(), Fail> {
          snapjudge: broken: read failed\nsnapjudge: folder: is a directory; check -r judges the files below it\n";
     let (written, said) = (OBJECTS.as_bytes(), said.as_bytes());
     expect_checked(&rt, alloc, list, (Format::Json, 2), 4, written, said)
+}
+
+// What texts have shown, among names without a status: in lines, and as objects.
+const SHOWN: &[(Format, &str)] = &[
+    (
+        Format::Counts,
+        "stale: events 4\nstale: calls 2\nstale: pending 0\nstale: views 1\nstale: updates 1\n\
+        stale: processes 2\nstale: components 1\nstale: views that overlap an update 0\n\
+        stale: views that overlap another view 0\nstale: views that overlap nothing 1\n\
+        stale: updates that no view shows 1\nstale: most calls open at once 1\n\
+        stale: events of the longest call 2\nstale: component 0 writer 0 updates 1 views 0\n\
+        stale: nothing overlapped: this run shows nothing of concurrency\n\
+        busy: refused record 3: busy\n",
+    ),
+    (
+        Format::CountsObject,
+        "{\"name\":\"stale\",\"status\":0,\"events\":4,\"calls\":2,\"pending\":0,\"views\":1,\"updates\":1,\
+        \"processes\":2,\"components\":1,\"overlap_update\":0,\"overlap_view\":0,\"overlap_nothing\":1,\
+        \"unshown\":1,\"most_open\":1,\"longest\":2,\"shows_concurrency\":false,\
+        \"by_component\":[{\"component\":0,\"writer\":0,\"updates\":1,\"views\":0}]}\n\
+        {\"name\":\"none\",\"status\":4,\"trouble\":\"no such file\"}\n\
+        {\"name\":\"busy\",\"status\":3,\"refused\":{\"record\":3,\"fault\":\"busy\"}}\n",
+    ),
+];
+
+#[test]
+fn what_texts_have_shown_has_their_names(rt: HostRuntime) -> Result<(), Fail> {
+    let list: &[&[u8]] = &[b"stale", b"none", b"busy"];
+    let said = b"snapjudge: none: no such file\n";
+    for (format, written) in SHOWN {
+        let asked = (*format, 0);
+        expect_checked(&rt, rt.alloc(), list, asked, 4, written.as_bytes(), said)?;
+    }
+    Ok(())
 }
 
 // In a report the bytes above 127 of a name that is not UTF-8 are escaped. In an object U+FFFD replaces them.

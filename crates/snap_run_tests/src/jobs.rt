@@ -39,11 +39,11 @@ fn is_named(name: &Option<Vec<u8>>, files: &[&str]) -> bool {
 fn is_on(job: &Job, files: &[&str]) -> bool {
     match job {
         Job::Check { input, .. } => are_named(&input.files, files),
+        Job::Stats { files: names, .. } => are_named(names, files),
         Job::Follow { file, .. }
         | Job::Shrink { file, .. }
         | Job::Explain { file, .. }
-        | Job::Draw { file, .. }
-        | Job::Stats { file, .. } => is_named(file, files),
+        | Job::Draw { file, .. } => is_named(file, files),
         Job::Record { .. } => files.is_empty(),
     }
 }
@@ -81,6 +81,7 @@ const LINES_WITH_FILES: &[(&str, &[&str])] = &[
     ("snapjudge draw a.csv --text", &["a.csv"]),
     ("snapjudge stats a.csv", &["a.csv"]),
     ("snapjudge stats", &[]),
+    ("snapjudge stats b.csv - a.csv", &["b.csv", "-", "a.csv"]),
     ("snapjudge stats --format json -", &["-"]),
     ("snapjudge stats --events 1048576 a.csv", &["a.csv"]),
     ("snapjudge shrink --draw a.csv", &["a.csv"]),

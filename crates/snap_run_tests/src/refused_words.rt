@@ -47,7 +47,7 @@ const OTHER_LINES: &[&str] = &[
     "snapjudge stats --events 0",
     "snapjudge stats --format xml",
     "snapjudge stats --draw",
-    "snapjudge stats a.csv b.csv",
+    "snapjudge stats - a.csv -",
     "snapjudge check --views -1",
     "snapjudge check --quiet=yes",
     "snapjudge check --format",
@@ -239,6 +239,10 @@ const TOGETHER: &[(&str, &str)] = &[
     ),
     (
         "snapjudge check - a.csv --files-from=-",
+        "error: - is standard input, and can be named once\n",
+    ),
+    (
+        "snapjudge stats - a.csv -",
         "error: - is standard input, and can be named once\n",
     ),
     (

@@ -35,6 +35,7 @@ gives_more command rows Gives More GivesNone MoreNone more none finds = record {
   explain = λ events drawn is asks. more _ (finds.explain events drawn is asks);
   draw = λ events form is asks. more _ (finds.draw events form is asks);
   stats = λ events json is asks. more _ (finds.stats events json is asks);
+  repeated = λ is asks. none (finds.repeated is asks);
   recording = λ events workers rounds flags is asks. more _ (finds.recording events workers rounds flags is asks);
   unfollowed = λ is asks. none (finds.unfollowed is asks);
   unheeded = λ is asks. none (finds.unheeded is asks);

@@ -7,7 +7,7 @@ use Rattle.snap_core.specs.Limits.{IsLimit, event_limit}
 use Rattle.snap_threads.specs.Cuttings.{IsPieces, IsWorkers}
 use Rattle.snap_words.specs.CommandLine.{program_app}
 use Rattle.snap_record.specs.Plans.{AreRoundsWithin}
-use Rattle.snap_words.specs.Jobs.{AreViews, AsksCheck, AsksFollow, AsksLimit, AsksRecordWithin, Checking, Flags, IsOneForm, IsWindow, SaysColor, SaysOr, files_of, flag_text, format_text, inputs_at, inputs_in, names_unheeded, names_windows, plain_check, usual_rounds, usual_window}
+use Rattle.snap_words.specs.Jobs.{AreViews, AsksCheck, AsksFollow, AsksLimit, AsksRecordWithin, AsksStatsWithin, Checking, Flags, IsOneForm, IsWindow, SaysColor, SaysOr, files_of, flag_text, format_text, inputs_at, inputs_in, names_unheeded, names_windows, plain_check, usual_rounds, usual_window}
 use Rattle.snap_words.specs.Lines.{Means}
 use Rattle.snap_words.specs.declared.job.Options.{Options}
 use Rattle.snap_words.specs.declared.job.Windows.{Windows}
@@ -219,6 +219,19 @@ follow_of words events windows files events_fit views_fit window_fits idle_fits 
       views_are = ap (λ s. s.views) said;
       window_is = subst (λ text. SaysOr (usual_window events) text windows.least) (sym (ap (λ s. s.window) said)) window_is;
       idle_is = subst (λ text. SaysOr 0 text windows.idle) (sym (ap (λ s. s.idle) said)) idle_is;
+    }) files_are
+
+-- lines of `stats`
+pub stats_of : (events : ℕ) (json : Bool) (files : List Text) (words : List Text)
+    → takes program_app words ≡ true → command_in (subcommand_of program_app words) ≡ Some (codes "stats")
+    → first_of (codes "format") (rows_by words) ≡ Some (format_text json) → AsksLimit events (rows_by words)
+    → inputs_in files ≤ 1 → files_of (rows_by words) ≡ files
+    → Means words (codes "stats") (AsksStatsWithin events json) files
+stats_of events json files words taken named format_is limit once files_are =
+    means words (codes "stats") (AsksStatsWithin events json) files taken named (record {
+      format_is = format_is;
+      limit = limit;
+      input_once = subst (λ (names : List Text). inputs_in names ≤ 1) (sym files_are) once;
     }) files_are
 
 -- lines of `record` with 2 workers, as where nothing else is said

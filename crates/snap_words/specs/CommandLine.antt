@@ -111,9 +111,9 @@ text_rule = record (new_rule (codes "text")) { long = Some (codes "text"); actio
 abbrev pub draw_app : App
 draw_app = with_rules (new_app (codes "draw")) (svg_rule ∷ text_rule ∷ events_rule ∷ file_rule ∷ [])
 
--- stats [--format FORMAT] [--events N] [FILE]
+-- stats [--format FORMAT] [--events N] [FILE ..]
 abbrev pub stats_app : App
-stats_app = with_rules (new_app (codes "stats")) (format_rule ∷ events_rule ∷ file_rule ∷ [])
+stats_app = with_rules (new_app (codes "stats")) (format_rule ∷ events_rule ∷ files_rule ∷ [])
 
 -- --workers W, or 2 if it is not given
 abbrev pub recorders_rule : Rule

@@ -38,7 +38,7 @@ IsInRange (Follow limit windows file) = IsLimit limit.events × AreViews limit.e
 IsInRange (Shrink drawn limit file) = IsLimit limit.events
 IsInRange (Explain drawn limit file) = IsLimit limit.events
 IsInRange (Draw form limit file) = IsLimit limit.events
-IsInRange (Stats json limit file) = IsLimit limit.events
+IsInRange (Stats json limit files) = IsLimit limit.events
 IsInRange (Record workers rounds judge scan stamped) = AreWorkers workers × AreRounds rounds × (judge ≡ true → stamped ≡ false)
 
 -- the texts of some names, and of one that may be absent
@@ -92,7 +92,7 @@ IsCheck asked files (Follow limit windows file) = ⊥
 IsCheck asked files (Shrink drawn limit file) = ⊥
 IsCheck asked files (Explain drawn limit file) = ⊥
 IsCheck asked files (Draw form limit file) = ⊥
-IsCheck asked files (Stats json limit file) = ⊥
+IsCheck asked files (Stats json limit names) = ⊥
 IsCheck asked files (Record w rounds judge scan stamped) = ⊥
 
 -- the job judges a recording while it grows: the only one of these files, with windows of at most `events` events
@@ -102,7 +102,7 @@ IsFollow events windows files (Follow limit asked file) = (limit.events ≡ even
 IsFollow events windows files (Shrink drawn limit file) = ⊥
 IsFollow events windows files (Explain drawn limit file) = ⊥
 IsFollow events windows files (Draw form limit file) = ⊥
-IsFollow events windows files (Stats json limit file) = ⊥
+IsFollow events windows files (Stats json limit names) = ⊥
 IsFollow events windows files (Record w rounds judge scan stamped) = ⊥
 
 -- the job cuts down the history in the first of these files, of at most `events` events, to a text or to its picture
@@ -112,7 +112,7 @@ IsShrink events drawn files (Follow limit windows file) = ⊥
 IsShrink events drawn files (Shrink asked limit file) = (asked ≡ drawn) × (limit.events ≡ events) × (text_of file ≡ first_name files)
 IsShrink events drawn files (Explain asked limit file) = ⊥
 IsShrink events drawn files (Draw form limit file) = ⊥
-IsShrink events drawn files (Stats json limit file) = ⊥
+IsShrink events drawn files (Stats json limit names) = ⊥
 IsShrink events drawn files (Record w rounds judge scan stamped) = ⊥
 
 -- the job explains it, with a picture or without
@@ -122,7 +122,7 @@ IsExplain events drawn files (Follow limit windows file) = ⊥
 IsExplain events drawn files (Shrink asked limit file) = ⊥
 IsExplain events drawn files (Explain asked limit file) = (asked ≡ drawn) × (limit.events ≡ events) × (text_of file ≡ first_name files)
 IsExplain events drawn files (Draw form limit file) = ⊥
-IsExplain events drawn files (Stats json limit file) = ⊥
+IsExplain events drawn files (Stats json limit names) = ⊥
 IsExplain events drawn files (Record w rounds judge scan stamped) = ⊥
 
 -- the job draws it in a form
@@ -132,17 +132,17 @@ IsDraw events form files (Follow limit windows file) = ⊥
 IsDraw events form files (Shrink drawn limit file) = ⊥
 IsDraw events form files (Explain drawn limit file) = ⊥
 IsDraw events form files (Draw asked limit file) = (asked ≡ form) × (limit.events ≡ events) × (text_of file ≡ first_name files)
-IsDraw events form files (Stats json limit file) = ⊥
+IsDraw events form files (Stats json limit names) = ⊥
 IsDraw events form files (Record w rounds judge scan stamped) = ⊥
 
--- the job counts what it has shown, as an object or as lines
+-- the job counts what the history in each of these files has shown, as objects or as lines
 abbrev pub IsStats : ℕ → Bool → List Text → Job → Type 0
 IsStats events json files (Check cutting limit options input) = ⊥
 IsStats events json files (Follow limit windows file) = ⊥
 IsStats events json files (Shrink drawn limit file) = ⊥
 IsStats events json files (Explain drawn limit file) = ⊥
 IsStats events json files (Draw form limit file) = ⊥
-IsStats events json files (Stats asked limit file) = (asked ≡ json) × (limit.events ≡ events) × (text_of file ≡ first_name files)
+IsStats events json files (Stats asked limit names) = (asked ≡ json) × (limit.events ≡ events) × (texts_of names.items ≡ files)
 IsStats events json files (Record w rounds judge scan stamped) = ⊥
 
 -- the flags of a recording: its report in place of its history, scans in place of views, and the stamps of its events
@@ -161,7 +161,7 @@ IsRecord workers rounds flags (Follow limit windows file) = ⊥
 IsRecord workers rounds flags (Shrink drawn limit file) = ⊥
 IsRecord workers rounds flags (Explain drawn limit file) = ⊥
 IsRecord workers rounds flags (Draw form limit file) = ⊥
-IsRecord workers rounds flags (Stats json limit file) = ⊥
+IsRecord workers rounds flags (Stats json limit names) = ⊥
 IsRecord workers rounds flags (Record w r judge scan stamped) =
     (w ≡ workers) × (r ≡ rounds) × (judge ≡ flags.judge) × (scan ≡ flags.scan) × (stamped ≡ flags.stamped)
 
@@ -184,14 +184,27 @@ pub record AsksPictureWithin (events : ℕ) (drawn : Bool) (rows : List Row) : T
 abbrev pub AsksPicture : Bool → List Row → Type 0
 AsksPicture = AsksPictureWithin event_limit
 
+-- the files that are named, or none if the word is absent
+abbrev pub given_or_none : Option (List Text) → List Text
+given_or_none None = []
+given_or_none (Some names) = names
+
+abbrev pub files_of : List Row → List Text
+files_of rows = given_or_none (all_of (codes "file") rows)
+
 abbrev pub format_text : Bool → List ℕ
 format_text true = codes "json"
 format_text false = codes "plain"
 
--- whether --format asks for an object, and the limit of events
+-- whether --format asks for an object, and the limit of events; standard input is named at most once
 pub record AsksStatsWithin (events : ℕ) (json : Bool) (rows : List Row) : Type 0 where
   pub format_is : first_of (codes "format") rows ≡ Some (format_text json)
   pub limit : AsksLimit events rows
+  pub input_once : inputs_in (files_of rows) ≤ 1
+
+-- the files name standard input more than once
+abbrev pub NamesInputTwice : List Row → Type 0
+NamesInputTwice rows = 1 < inputs_in (files_of rows)
 
 -- what `stats` asks for if no limit is chosen
 abbrev pub AsksStats : Bool → List Row → Type 0
@@ -237,14 +250,6 @@ names_unheeded rows =
 pub record FollowsUnheeding (rows : List Row) : Type 0 where
   pub followed : one_of (codes "follow") rows ≡ Some (flag_text true)
   pub unheeded_named : names_unheeded rows ≡ true
-
--- the files that are named, or none if the word is absent
-abbrev pub given_or_none : Option (List Text) → List Text
-given_or_none None = []
-given_or_none (Some names) = names
-
-abbrev pub files_of : List Row → List Text
-files_of rows = given_or_none (all_of (codes "file") rows)
 
 -- The options of `check` have these numbers, which are in their ranges. The number of pieces of a long text is left to the program
 -- exactly if --pieces is not given. Each flag is given or not, and the format and the colours have their words. One form of answer

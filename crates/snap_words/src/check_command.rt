@@ -5,7 +5,7 @@ ghost use Rattle.clap.specs.declared.builder.command.Command.TheViews.{out-Comma
 ghost use Rattle.snap_words.specs.CommandLine.{check_app};
 
 use crate::command::command_of;
-use crate::word::{EVENTS, FORMAT, NUMBER_LIMIT, Takes, Word};
+use crate::word::{EVENTS, FILES, FORMAT, NUMBER_LIMIT, Takes, Word};
 use clap::Command;
 use snap_core::EVENT_CAP;
 use snap_threads::{PIECE_LIMIT, WORKER_LIMIT};
@@ -191,13 +191,7 @@ const WORDS: &[Word<'static>] = &[
         takes: Takes::Text { name: "WHEN" },
         help: "Colour the verdicts: auto, always or never. Without it, and of auto, they have colours on a terminal",
     },
-    Word {
-        id: "file",
-        long: None,
-        short: None,
-        takes: Takes::Texts { name: "FILE" },
-        help: "The histories; without one, and of -, standard input is read",
-    },
+    FILES,
 ];
 
 pub(crate) fn check_command<'a>(alloc: Global) -> Result<Command<'a>, AllocError>

@@ -4,12 +4,12 @@ ghost use Rattle.clap.specs.Words.{Row, Text, found_of, rows_of};
 ghost use Rattle.snap_words.specs.Drawing.{AsksDrawWithin};
 ghost use Rattle.snap_words.specs.Inputs.{IsInputOf};
 ghost use Rattle.snap_words.specs.inside.Found.{FindsJob};
-ghost use Rattle.snap_words.specs.Jobs.{AsksCheck, AsksFollow, AsksPictureWithin, AsksRecordWithin, AsksStatsWithin, AsksTooManyRounds, Checking, Flags, FollowsUnheeding, IsCheck, IsDraw, IsExplain, IsFollow, IsInRange, IsRecord, IsShrink, IsStats, LacksFollow, files_of, first_name, text_of};
+ghost use Rattle.snap_words.specs.Jobs.{AsksCheck, AsksFollow, AsksPictureWithin, AsksRecordWithin, AsksStatsWithin, AsksTooManyRounds, Checking, Flags, FollowsUnheeding, IsCheck, IsDraw, IsExplain, IsFollow, IsInRange, IsRecord, IsShrink, IsStats, LacksFollow, NamesInputTwice, files_of, first_name, text_of, texts_of};
 ghost use Rattle.snap_words.specs.declared.job.Windows.{Windows};
 
 use crate::color::color_in;
 use crate::drawing::{Form, form_in};
-use crate::input::Input;
+use crate::input::{Input, inputs_among};
 use crate::job::{Job, Options, Windows};
 use crate::option_values::{
     events_in, flag_in, is_given, is_plain, json_in, limit_in, number_in, number_or,
@@ -201,13 +201,18 @@ fn explain_in(matches: &ArgMatches<'_>, file: Option<Vec<u8>>) -> Option<Job>
 }
 
 // The counts that the options of `stats` ask for.
-fn stats_in(matches: &ArgMatches<'_>, file: Option<Vec<u8>>) -> Option<Job>
+fn stats_in(matches: &ArgMatches<'_>, files: Vec<Vec<u8>>) -> Option<Job>
+    requires named { texts_of files.items ≡ files_of (rows_of (found_of matches.now)) }
     ensures job { IfSome result IsInRange }
-    ensures asked { (events : ℕ) (json : Bool) (files : List Text) → text_of file ≡ first_name files → AsksStatsWithin events json (rows_of (found_of matches.now)) → IsSomeAnd result (IsStats events json files) }
+    ensures asked { (events : ℕ) (json : Bool) → AsksStatsWithin events json (rows_of (found_of matches.now)) → IsSomeAnd result (IsStats events json (files_of (rows_of (found_of matches.now)))) }
+    ensures repeated { NamesInputTwice (rows_of (found_of matches.now)) → IsNone result }
 {
     let json = json_in(matches)?;
     let limit = limit_in(matches)?;
-    Some(Job::Stats { json, limit, file })
+    if inputs_among(&files) > 1 {
+        return None;
+    }
+    Some(Job::Stats { json, limit, files })
 }
 
 /// The job that a command asks for by its options, if each number is there and in its range.
@@ -221,7 +226,7 @@ pub(crate) fn job_in(name: &str, matches: &ArgMatches<'_>, input: Input) -> Opti
         "shrink" => shrink_in(matches, input.into_file()),
         "explain" => explain_in(matches, input.into_file()),
         "draw" => draw_in(matches, input.into_file()),
-        "stats" => stats_in(matches, input.into_file()),
+        "stats" => stats_in(matches, input.into_files()),
         _ => record_in(matches),
     }
 }

@@ -2,7 +2,7 @@
 ghost use Rattle.std.specs.Prelude.{◌≡◌, ℕ, Bool, List, [], codes, IfOk, IsErr, MatchResult, map, string_bytes};
 ghost use Rattle.clap.specs.Words.{Text};
 ghost use Rattle.snap_words.specs.Drawing.{AsksDrawWithin};
-ghost use Rattle.snap_words.specs.Jobs.{AsksCheck, AsksFollow, AsksPictureWithin, AsksRecordWithin, AsksStatsWithin, AsksTooManyRounds, Checking, Flags, FollowsUnheeding, IsCheck, IsDraw, IsExplain, IsFollow, IsInRange, IsRecord, IsShrink, IsStats, LacksFollow};
+ghost use Rattle.snap_words.specs.Jobs.{AsksCheck, AsksFollow, AsksPictureWithin, AsksRecordWithin, AsksStatsWithin, AsksTooManyRounds, Checking, Flags, FollowsUnheeding, IsCheck, IsDraw, IsExplain, IsFollow, IsInRange, IsRecord, IsShrink, IsStats, LacksFollow, NamesInputTwice};
 ghost use Rattle.snap_words.specs.Lines.{Means};
 ghost use Rattle.snap_words.specs.declared.drawing.Form.{Form};
 ghost use Rattle.snap_words.specs.declared.job.Windows.{Windows};
@@ -110,18 +110,24 @@ fn whole_name(name: Option<Vec<u8>>, others: &[Vec<u8>]) -> Result<Option<Vec<u8
     Ok(Some(name))
 }
 
+// The whole names for some names.
+fn whole_files(files: Vec<Vec<u8>>, others: &[Vec<u8>]) -> Result<Vec<Vec<u8>>, AllocError> {
+    let mut files = files;
+    for name in &mut files {
+        make_whole(name, others)?;
+    }
+    Ok(files)
+}
+
 fn whole_input(input: Input, others: &[Vec<u8>]) -> Result<Input, AllocError> {
     let Input {
-        mut files,
+        files,
         list,
         null,
         folder,
     } = input;
-    for name in &mut files {
-        make_whole(name, others)?;
-    }
     Ok(Input {
-        files,
+        files: whole_files(files, others)?,
         list: whole_name(list, others)?,
         null,
         folder: whole_name(folder, others)?,
@@ -173,10 +179,10 @@ fn whole_job(job: Job, others: &[Vec<u8>]) -> Result<Job, AllocError>
             limit,
             file: whole_name(file, others)?,
         },
-        Job::Stats { json, limit, file } => Job::Stats {
+        Job::Stats { json, limit, files } => Job::Stats {
             json,
             limit,
-            file: whole_name(file, others)?,
+            files: whole_files(files, others)?,
         },
         job => job,
     })
@@ -244,6 +250,7 @@ pub fn wanted_by(alloc: Global, words: Words) -> Result<Job, JobFault>
     ensures stats { (events : ℕ) (json : Bool) (files : List Text) → words.others.items ≡ []
         → Means (map string_bytes words.texts.items) (codes "stats") (AsksStatsWithin events json) files
         → MatchResult result (IsStats events json files) (λ fault. fault ≡ JobFault.Memory) }
+    ensures repeated { (files : List Text) → Means (map string_bytes words.texts.items) (codes "stats") NamesInputTwice files → IsErr result }
     ensures recording { (events workers rounds : ℕ) (flags : Flags) (files : List Text) → words.others.items ≡ []
         → Means (map string_bytes words.texts.items) (codes "record") (λ rows. AsksRecordWithin events rows workers rounds flags) files
         → MatchResult result (IsRecord workers rounds flags) (λ fault. fault ≡ JobFault.Memory) }

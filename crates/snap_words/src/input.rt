@@ -27,8 +27,8 @@ fn is_input_name(name: &[u8]) -> bool
     name == b"-".as_slice()
 }
 
-// How often standard input is among some names.
-fn inputs_among(names: &[Vec<u8>]) -> usize
+/// How often standard input is among some names.
+pub(crate) fn inputs_among(names: &[Vec<u8>]) -> usize
     ensures count { result ≡ inputs_in (texts_of names.now) }
     ensures each { result ≤ length names.now }
 {
@@ -64,6 +64,13 @@ impl Input {
         ensures { (self.now.null ≡ true → IsSome self.now.list) → inputs_in (texts_of self.now.files.items) + inputs_at (text_of self.now.list) ≤ 1 → result ≡ true }
     {
         (!self.null || self.list.is_some()) && !names_input_twice(&self.files, &self.list)
+    }
+
+    /// The files.
+    pub(crate) fn into_files(self) -> Vec<Vec<u8>>
+        ensures { result ≡ self.files }
+    {
+        self.files
     }
 
     /// The first file, or nothing if there is none.

@@ -2,7 +2,7 @@
 ghost use Rattle.std.specs.Prelude.{◌≡◌, ℕ, Bool, List, Some, codes, IfOk, IsErr, MatchResult, map, string_bytes};
 ghost use Rattle.clap.specs.Words.{Row, Text, kind_of, subcommand_rows_of};
 ghost use Rattle.snap_words.specs.Drawing.{AsksDrawWithin};
-ghost use Rattle.snap_words.specs.Jobs.{AsksCheck, AsksFollow, AsksPictureWithin, AsksRecordWithin, AsksStatsWithin, AsksTooManyRounds, Checking, Flags, FollowsUnheeding, IsCheck, IsDraw, IsExplain, IsFollow, IsInRange, IsRecord, IsShrink, IsStats, LacksFollow};
+ghost use Rattle.snap_words.specs.Jobs.{AsksCheck, AsksFollow, AsksPictureWithin, AsksRecordWithin, AsksStatsWithin, AsksTooManyRounds, Checking, Flags, FollowsUnheeding, IsCheck, IsDraw, IsExplain, IsFollow, IsInRange, IsRecord, IsShrink, IsStats, LacksFollow, NamesInputTwice};
 ghost use Rattle.snap_words.specs.inside.Found.{FindsGiven};
 ghost use Rattle.snap_words.specs.Lines.{Means};
 
@@ -49,7 +49,7 @@ pub struct Windows {
 }
 
 /// What the program is asked to do, and on which texts. A history may have as many events as the limit says. An absent file is
-/// standard input.
+/// standard input, and so are no files at all.
 #[derive(Drop)]
 pub enum Job {
     /// Judge histories.
@@ -83,11 +83,11 @@ pub enum Job {
         limit: Limit,
         file: Option<Vec<u8>>,
     },
-    /// Count what a history has shown, as lines or as a JSON object.
+    /// Count what each history has shown, as lines or as a JSON object.
     Stats {
         json: bool,
         limit: Limit,
-        file: Option<Vec<u8>>,
+        files: Vec<Vec<u8>>,
     },
     /// Record `workers` workers in `rounds` rounds of a store and a view, or a scan in place of the view. Judge the history if that
     /// is asked for, or write it with the stamps of its events, but not both.
@@ -188,6 +188,7 @@ pub fn job_of(alloc: Global, words: Vec<String>) -> Result<Job, JobFault>
     ensures stats { (events : ℕ) (json : Bool) (files : List Text)
         → Means (map string_bytes words.items) (codes "stats") (AsksStatsWithin events json) files
         → MatchResult result (IsStats events json files) (λ fault. fault ≡ JobFault.Memory) }
+    ensures repeated { (files : List Text) → Means (map string_bytes words.items) (codes "stats") NamesInputTwice files → IsErr result }
     ensures recording { (events workers rounds : ℕ) (flags : Flags) (files : List Text)
         → Means (map string_bytes words.items) (codes "record") (λ rows. AsksRecordWithin events rows workers rounds flags) files
         → MatchResult result (IsRecord workers rounds flags) (λ fault. fault ≡ JobFault.Memory) }

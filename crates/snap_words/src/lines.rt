@@ -3,7 +3,7 @@ ghost use Rattle.std.specs.Prelude.{◌∷◌, [], Some, codes, false, true};
 ghost use Rattle.clap.specs.Words.{Text};
 ghost use Rattle.snap_core.specs.Limits.{event_limit};
 ghost use Rattle.snap_words.specs.Drawing.{AsksDraw, AsksDrawWithin};
-ghost use Rattle.snap_words.specs.Jobs.{AsksCheck, AsksFollow, AsksPicture, AsksPictureWithin, AsksRecord, AsksRecordWithin, AsksStats, AsksStatsWithin, AsksTooManyRounds, FollowsUnheeding, LacksFollow, no_flags, no_options, plain_check};
+ghost use Rattle.snap_words.specs.Jobs.{AsksCheck, AsksFollow, AsksPicture, AsksPictureWithin, AsksRecord, AsksRecordWithin, AsksStats, AsksStatsWithin, AsksTooManyRounds, FollowsUnheeding, LacksFollow, NamesInputTwice, no_flags, no_options, plain_check};
 ghost use Rattle.snap_words.specs.Lines.{Means};
 ghost use Rattle.snap_words.specs.declared.color.Color.TheVariants.{Never};
 ghost use Rattle.snap_words.specs.declared.drawing.Form.TheVariants.{Lines, Page, Svg};
@@ -47,11 +47,13 @@ pub fn picture_lines()
     ensures draw_events { (name : Text) → Means (name ∷ codes "draw" ∷ codes "--events" ∷ codes "1048576" ∷ []) (codes "draw") (λ rows. AsksDrawWithin 1048576 rows Page) [] }
 {}
 
-/// What lines of `stats` ask for: lines, if nothing else is said.
+/// What lines of `stats` ask for: lines, if nothing else is said. A line that names standard input twice asks for no job.
 pub fn stats_lines()
     ensures alone { (name : Text) → Means (name ∷ codes "stats" ∷ []) (codes "stats") (AsksStats false) [] }
     ensures json { (name : Text) → Means (name ∷ codes "stats" ∷ codes "--format" ∷ codes "json" ∷ []) (codes "stats") (AsksStats true) [] }
     ensures events { (name : Text) → Means (name ∷ codes "stats" ∷ codes "--events" ∷ codes "1048576" ∷ []) (codes "stats") (AsksStatsWithin 1048576 false) [] }
+    ensures files { (name : Text) → Means (name ∷ codes "stats" ∷ codes "a.csv" ∷ codes "-" ∷ []) (codes "stats") (AsksStats false) (codes "a.csv" ∷ codes "-" ∷ []) }
+    ensures repeated { (name : Text) → Means (name ∷ codes "stats" ∷ codes "-" ∷ codes "-" ∷ []) (codes "stats") NamesInputTwice (codes "-" ∷ codes "-" ∷ []) }
 {}
 
 /// What lines of `record` ask for. Without options they are 2 workers and 16 rounds of views, or fewer rounds if the limit of

@@ -61,6 +61,8 @@ fn follow_refusal(matches: &ArgMatches<'_>, json: bool) -> &'static str {
 
 const NULL_ALONE: &str = "error: the argument '--null' needs '--files-from <LIST>'\n";
 
+const INPUT_ONCE: &str = "error: - is standard input, and can be named once\n";
+
 const UNKNOWN_FORMAT: &str =
     "error: invalid value for '--format <FORMAT>'\n  [possible values: plain, json]\n\nFor more information, try '--help'.\n";
 
@@ -80,7 +82,16 @@ fn check_refusal(matches: &ArgMatches<'_>, json: bool) -> &'static str {
     } else if flag_in(matches, "null") && !is_given(matches, "list") {
         NULL_ALONE
     } else {
-        "error: - is standard input, and can be named once\n"
+        INPUT_ONCE
+    }
+}
+
+// Why counts are not asked for.
+fn stats_refusal(matches: &ArgMatches<'_>) -> &'static str {
+    if json_in(matches).is_none() {
+        UNKNOWN_FORMAT
+    } else {
+        INPUT_ONCE
     }
 }
 
@@ -90,8 +101,8 @@ fn refusal_of(matches: &ArgMatches<'_>) -> &'static str {
     if matches.subcommand_matches("draw").is_some() {
         return "error: the argument '--svg' cannot be used with '--text'\n";
     }
-    if matches.subcommand_matches("stats").is_some() {
-        return UNKNOWN_FORMAT;
+    if let Some(inner) = matches.subcommand_matches("stats") {
+        return stats_refusal(inner);
     }
     let Some(inner) = matches.subcommand_matches("check") else {
         return "error: the argument '--judge' cannot be used with '--stamped'\n";

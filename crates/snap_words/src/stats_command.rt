@@ -5,7 +5,7 @@ ghost use Rattle.clap.specs.declared.builder.command.Command.TheViews.{out-Comma
 ghost use Rattle.snap_words.specs.CommandLine.{stats_app};
 
 use crate::command::command_of;
-use crate::word::{EVENTS, FILE, FORMAT, Word};
+use crate::word::{EVENTS, FILES, FORMAT, Word};
 use clap::Command;
 use std::alloc::{AllocError, Global};
 
@@ -44,13 +44,17 @@ it makes
 Two calls overlap where neither ends before the other begins. Views are completed views. A
 call without an end is pending, and overlaps all that comes after its begin.
 
+Of several files the counts stand in the order of the names. Each line has the file's name and a
+colon before it, and the status is the greatest. A file that can't be opened or read counts as 4:
+standard error says why, and the others are counted all the same.
+
 Exit status:
     0  the history was counted
     3  the text is no history: the one line that is written names the record and its fault
-    4  reading, writing or memory failed, or the file can't be opened
+    4  reading, writing or memory failed, or a file can't be opened
     5  the words of the command line were not taken";
 
-const WORDS: &[Word<'static>] = &[FORMAT, EVENTS, FILE];
+const WORDS: &[Word<'static>] = &[FORMAT, EVENTS, FILES];
 
 pub(crate) fn stats_command<'a>(alloc: Global) -> Result<Command<'a>, AllocError>
     ensures { IfOk result (λ command. (app_of command ≡ stats_app) × ((fields_of command).has_globals ≡ false)) }

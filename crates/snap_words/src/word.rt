@@ -83,6 +83,15 @@ pub(crate) const FORMAT: Word<'static> = Word {
     help: "Write lines, or a JSON object for each history: plain or json",
 };
 
+/// The files of a command that takes several.
+pub(crate) const FILES: Word<'static> = Word {
+    id: "file",
+    long: None,
+    short: None,
+    takes: Takes::Texts { name: "FILE" },
+    help: "The histories; without one, and of -, standard input is read",
+};
+
 /// The file of a command that takes one.
 pub(crate) const FILE: Word<'static> = Word {
     id: "file",

@@ -2,7 +2,8 @@
 ghost use Rattle.snap_words.specs.Jobs.{IsInRange};
 
 use crate::check::check;
-use snap_commands::{Failure, draw, explain, follow, record, shrink, stats};
+use crate::counts::count;
+use snap_commands::{Failure, draw, explain, follow, record, shrink};
 use snap_words::Job;
 use std::sync::Wait;
 use std::thread::Threads;
@@ -30,7 +31,7 @@ pub(crate) fn done<Rt: Threads + Wait + Sync>(
         Job::Shrink { drawn, limit, file } => shrink(rt, host, &file, drawn, limit),
         Job::Explain { drawn, limit, file } => explain(rt, host, &file, drawn, limit),
         Job::Draw { form, limit, file } => draw(rt, host, &file, form, limit),
-        Job::Stats { json, limit, file } => stats(rt, host, &file, json, limit),
+        Job::Stats { json, limit, files } => count(rt, host, files, json, limit),
         Job::Record {
             workers,
             rounds,

@@ -5,6 +5,7 @@ ghost use Rattle.std.specs.Prelude.{◌≡◌, MatchResult};
 ghost use Rattle.snap_commands.specs.Failures.{failure_code};
 
 mod check;
+mod counts;
 mod jobs;
 mod options;
 mod streams;

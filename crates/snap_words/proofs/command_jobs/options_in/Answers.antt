@@ -30,7 +30,7 @@ returns c = λ asked asks.
     let summary = c.flag_in-summary.ensures.given asked.options.summary asks.summary_is in
     let no_progress = c.flag_in-no_progress.ensures.given asked.options.no_progress asks.no_progress_is in
     let color : c.in_ok-color.color ≡ asked.options.color = cc in
-    let finer = ap not c.is_given.ensures ∙ not_given (codes "pieces") (rows_of (found_of c.args.matches.now)) ∙ sym asks.finer_is in
+    let finer = ap not c.is_given-finer.ensures ∙ not_given (codes "pieces") (rows_of (found_of c.args.matches.now)) ∙ sym asks.finer_is in
     λ i. Some (record {
       quiet = quiet i;
       views = views i;

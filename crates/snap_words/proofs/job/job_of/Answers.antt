@@ -73,5 +73,8 @@ returns-clause-unfollowed c = λ files means. (c.asked_by.ensures.asked (codes "
 pub returns-clause-unheeded : goal.returns-clause-unheeded
 returns-clause-unheeded c = λ files means. (c.asked_by.ensures.asked (codes "check") means.rows (found c _ means.rows_are)).unheeded refl means.asks
 
+pub returns-clause-repeated : goal.returns-clause-repeated
+returns-clause-repeated c = λ files means. (c.asked_by.ensures.asked (codes "stats") means.rows (found c _ means.rows_are)).repeated refl means.asks
+
 pub returns-clause-overfull : goal.returns-clause-overfull
 returns-clause-overfull c = λ files means. (c.asked_by.ensures.asked (codes "record") means.rows (found c _ means.rows_are)).overfull refl means.asks
