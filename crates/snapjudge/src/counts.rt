@@ -1,8 +1,7 @@
 //! What the texts of some names have shown.
-use snap_commands::{Failure, stats, system};
+use snap_commands::{Failure, Outlet, stats, system};
 use snap_core::{Counted, Limit, OpenGate};
 use snap_files::{FileOptions, check_all};
-use snap_terminal::Outlet;
 use snap_threads::Cutting;
 use std::thread::Threads;
 
