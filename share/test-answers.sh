@@ -166,6 +166,14 @@ expect "a refused text, and draw --text" 3 "$refused_empty" ./second draw --text
 expect "a refused text, and explain --draw" 3 "$refused_empty" ./second explain --draw
 expect "a refused text, and shrink --draw" 3 "refused record 1: header
 " ./second shrink --draw
+for log in '{:type :invoke, :f :read}' '[{:type :invoke, :f :read}]'; do
+  printf '%s\n' "$log" >log.edn
+  expect "a log of Jepsen" 3 "refused record 1: header
+a text that begins with { or [ may be a log of Jepsen: snapjudge-from-jepsen makes histories of it (docs/JEPSEN.md)
+the first record is event,process,op,data, or at,event,process,op,data where records have stamps
+  record 1 has the fields \"${log%%,*}\" \"${log#*,}\"
+" ./second explain log.edn
+done
 expect "a picture in two forms" 5 "" ./second draw --svg --text old.csv
 expect_said "the reason" "error: the argument '--svg' cannot be used with '--text'"
 expect "a picture of a file that is not there" 4 "" ./second draw --svg none.csv
