@@ -52,7 +52,9 @@ def reached(below, names):
 def unnamed():
     """Each file that names a crate which the line of its own crate does not have, with the name of that crate."""
     for crate, (_, libraries) in read().items():
-        for file in sorted((TOP / f"crates/{crate}").rglob("*.*t")):
+        # what is built of a crate lies beside these, and has files of the crates below it
+        folders = [TOP / f"crates/{crate}/{it}" for it in ("src", "specs", "proofs")]
+        for file in sorted(it for folder in folders for it in folder.rglob("*.*t")):
             if file.suffix in (".rt", ".antt"):
                 named = {code or ghost for code, ghost in NAMED.findall(file.read_text(encoding="utf-8"))}
                 yield from ((file.relative_to(TOP), it) for it in sorted(named - {crate, *libraries}))
