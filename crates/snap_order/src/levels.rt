@@ -179,7 +179,7 @@ impl<'i, 'h> Levels<'i, 'h> {
     {
         // this call shows that the events are a history
         let _events = self.index.event_count();
-        let mut keys = Vec::new(alloc);
+        let mut keys = Vec::with_capacity(alloc, (to - from) as usize)?;
         // the number of completed views before the call
         let mut views = self.views_before(from);
         // the level of the last printed call, to which that of the next is mostly close

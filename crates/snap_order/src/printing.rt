@@ -1,14 +1,17 @@
 //! The printed order.
 ghost use Rattle.std.specs.Prelude.{◌≡◌, map, IfOk};
 ghost use Rattle.snap_core.specs.Calls.{calls_of};
+ghost use Rattle.snap_core.specs.Events.{event_cap};
 ghost use Rattle.snap_views.specs.Chains.{IsViewChain};
 ghost use Rattle.snap_theory.specs.Faults.{HasNoFault};
+ghost use Rattle.snap_theory.specs.KeyOrder.{as_one};
 ghost use Rattle.snap_theory.specs.Keys.{printed_keys};
 ghost use Rattle.snap_theory.specs.Levels.{printed_order};
 ghost use Rattle.snap_order.specs.Numbers.{IsLegalList};
 
 use crate::levels::Levels;
 use rayon::current_num_threads;
+use snap_core::EVENT_CAP;
 use snap_index::Index;
 use snap_views::{ViewChain, ViewOrder, view_order, view_sums};
 use std::alloc::{AllocError, Global};
@@ -99,14 +102,19 @@ fn ordered(
 {
     // this call shows that the events are a history
     let _events = index.event_count();
-    keys.sort_unstable();
+    // a key is compared as one number, since the number of a call is less than the limit
+    keys.sort_unstable_by_key(
+        |key| -> u64
+            ensures { result ≡ as_one event_cap key.now }
+        { u64::from(key.0) * EVENT_CAP as u64 + u64::from(key.1) },
+    );
     numbers(alloc, &keys)
 }
 
 fn numbers(alloc: Global, keys: &[(u32, u32)]) -> Result<Vec<u32>, AllocError>
     ensures { IfOk result (λ numbers. numbers.items ≡ map (λ k. k.1) keys.now) }
 {
-    let mut numbers = Vec::new(alloc);
+    let mut numbers = Vec::with_capacity(alloc, keys.len())?;
     for (_rank, number) in keys {
         numbers.push(*number)?;
     }

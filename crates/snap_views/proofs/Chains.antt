@@ -1,29 +1,34 @@
 -- Views sorted by their sums are a chain exactly where each shows no more than the next.
-use Rattle.std.proofs.Common.{◌≡◌, ℕ, zero, suc, ◌+◌, ◌-◌, ◌<◌, ◌≤◌, Bool, true, false, List, [], ◌∷◌, map, length, get_or, eqb, refl, sym, ap, ◌∙◌, subst, inl, inr, arith}
+use Rattle.std.proofs.Common.{◌≡◌, ℕ, zero, suc, ◌+◌, ◌-◌, ◌*◌, ◌%◌, ◌<◌, ◌≤◌, Bool, true, false, List, [], ◌∷◌, map, length, get_or, eqb, refl, sym, ap, ◌∙◌, subst, inl, inr, arith}
 use Rattle.std.specs.List.{All, AllPairs, Contains, IsDistinct, range_with_len}
-use Rattle.std.specs.List.Sorted.{IsPermutation, IsSorted}
+use Rattle.std.specs.List.Sorted.{IsNonDecreasingBy, IsPermutation}
+use Rattle.std.proofs.Math.Nat.{mod-eq_of_lt}
 use Rattle.std.proofs.lemmas.Bool.{false_from_ne_true, false≢true, cases_lt, ne_eqb}
 use Rattle.std.proofs.lemmas.List.{get_or_default, get_or-map, length-map}
 use Rattle.std.proofs.lemmas.List.Elements.{All-map}
+use Rattle.std.proofs.lemmas.List.Sums.{sum_by-le}
 use Rattle.std.proofs.lemmas.List.FromFn.{get_or-range_with_len, length-range_with_len, length-map-range_with_len, get_or-map-range_with_len}
 use Rattle.std.proofs.lemmas.List.Sorted.{All-permutation, Contains-permutation, IsPermutation-map}
 use Rattle.std.proofs.lemmas.Map.Keys.{IsDistinct-from_apart}
+use Rattle.snap_core.specs.declared.entry.Entry.{Entry}
 use Rattle.snap_core.specs.declared.event.Event.{Event}
-use Rattle.snap_core.specs.Events.{IsBoundedHistory}
-use Rattle.snap_core.specs.Calls.{Call, calls_of, views_of, shown_number, nobody}
+use Rattle.snap_core.specs.Events.{IsBoundedHistory, event_cap}
+use Rattle.snap_core.specs.Calls.{Call, calls_of, entries_of, views_of, shown_number, nobody}
 use Rattle.snap_core.specs.Regular.{IsViewOf}
 use Rattle.snap_core.proofs.Fits.{bytes_of_events}
 use Rattle.snap_core.proofs.Lists.{In-get_or, Contains-from_In}
 use Rattle.snap_theory.specs.Faults.{exceeds}
 use Rattle.snap_views.specs.Quick.{shown_sum, AreComparable}
 use Rattle.snap_views.specs.Chains.{AreViewSums, summed_at, IsChain}
-use Rattle.snap_views.specs.inside.Chains.{summed_views, IsSummed, Climbs}
-use Rattle.snap_theory.specs.KeyOrder.{KeyLess}
+use Rattle.snap_views.specs.inside.Chains.{summed_views, IsSummed, Climbs, joined}
+use Rattle.snap_theory.specs.KeyOrder.{KeyLess, as_one}
 use Rattle.snap_views.specs.Seen.{view_in}
 use Rattle.snap_theory.proofs.Exceeding.{exceeds_not, not_exceeds}
+use Rattle.snap_views.proofs.EntrySums.{sum_is}
 use Rattle.snap_views.proofs.Quick.{smaller}
-use Rattle.snap_theory.proofs.Components.{byte_views}
-use Rattle.snap_views.proofs.SortedKeys.{key_cmp, seconds, keys_rise}
+use Rattle.snap_views.proofs.Sizes.{few_views, rising_few}
+use Rattle.snap_theory.proofs.Components.{byte_views, fit_views}
+use Rattle.snap_views.proofs.SortedKeys.{seconds, keys_rise}
 use Rattle.snap_theory.proofs.FaultLists.{from_views, in_views}
 
 pub sum_in : (calls : List Call) (sums : List ℕ) (place : ℕ) (d : ℕ) → AreViewSums calls sums → place < length (views_of calls) → get_or sums place d ≡ shown_sum (view_in calls place)
@@ -140,8 +145,28 @@ places_distinct calls = IsDistinct-from_apart eqb (seconds (summed_views calls))
     let at = λ (k : ℕ) (o : k < n). get_or-map (λ (k : ℕ × ℕ). k.1) (summed_views calls) k (0, 0) d (omega (arith, o, length-map-range_with_len (summed_at calls) 0 n)) ∙ ap (λ (z : ℕ × ℕ). z.1) (get_or-map-range_with_len (summed_at calls) 0 n k k (0, 0) o (omega arith)) in
     ne_eqb _ _ (λ e. let p = at i (omega (arith, l, m, count)) in let q = at j (omega (arith, m, count)) in absurd (omega (arith, p, q, e, l))))
 
-pub sorted_views : (calls : List Call) (keys : List (ℕ × ℕ)) → IsPermutation (summed_views calls) keys → IsSorted key_cmp keys → AllPairs KeyLess keys
-sorted_views calls keys p s = keys_rise (summed_views calls) keys p (places_distinct calls) s
+-- 256 numbers of 32 bits each
+small_sum : (es : List Event) → IsBoundedHistory es → (r : Call) → IsViewOf (calls_of es) r → shown_sum r ≤ 1099511627520
+small_sum es kept r v =
+    let shape = fit_views es kept.fit r v.there in
+    let few = rising_few (entries_of r.operation) shape.rising (λ j d l. (shape.fit j d l).0) in
+    let most = sum_by-le (λ (e : Entry). e.number) 4294967295 (entries_of r.operation) (λ j d l. let number = (shape.fit j d l).1 in omega (arith, number)) in
+    omega (arith, sum_is r shape, most, few)
+
+joined_is : (es : List Event) → IsBoundedHistory es → (key : ℕ × ℕ) → IsSummed (calls_of es) key → joined key ≡ as_one event_cap key
+joined_is es kept key s =
+    let small = small_sum es kept (view_in (calls_of es) key.1) (view_is (calls_of es) key.1 s.0) in
+    let sum : key.0 * event_cap < 18446744073709551616 = omega (arith, small, s.1) in
+    let both : key.0 * event_cap + key.1 < 18446744073709551616 = omega (arith, small, s.1, s.0, few_views es kept) in
+    ap (λ z. (z + key.1) % 18446744073709551616) (mod-eq_of_lt sum) ∙ mod-eq_of_lt both
+
+pub sorted_views : (es : List Event) → IsBoundedHistory es → (keys : List (ℕ × ℕ)) → IsPermutation (summed_views (calls_of es)) keys → IsNonDecreasingBy joined keys → AllPairs KeyLess keys
+sorted_views es kept keys p up =
+    let calls = calls_of es in
+    let all = all_summed calls keys p in
+    let few = few_views es kept in
+    keys_rise event_cap (summed_views calls) keys p (places_distinct calls) (λ i d l. let inside = (all i d l).0 in omega (arith, inside, few))
+    (λ i j d l m. omega (arith, up i j d l m, joined_is es kept (get_or keys i d) (all i d (omega (arith, l, m))), joined_is es kept (get_or keys j d) (all j d m)))
 
 pub is_chain : (calls : List Call) (keys : List (ℕ × ℕ)) → IsPermutation (summed_views calls) keys → AllPairs KeyLess keys → IsChain calls (seconds keys)
 is_chain calls keys p s = record {

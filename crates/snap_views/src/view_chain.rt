@@ -5,12 +5,12 @@ ghost use Rattle.snap_core.specs.Calls.{calls_of};
 ghost use Rattle.snap_core.specs.Entries.{AreEntries, component_count};
 ghost use Rattle.snap_core.specs.Events.{IsBoundedHistory};
 ghost use Rattle.snap_views.specs.Chains.{AreViewSums, IsChain};
-ghost use Rattle.snap_views.specs.inside.Chains.{IsSummed, Climbs, summed_views};
+ghost use Rattle.snap_views.specs.inside.Chains.{IsSummed, Climbs, joined, summed_views};
 ghost use Rattle.snap_views.specs.Quick.{AreComparable};
 ghost use Rattle.snap_views.specs.Rows.{AreNumbersOf, number_among, row_number, sum_below};
 
 use crate::seen::view_at;
-use snap_core::{COMPONENT_COUNT, Entry};
+use snap_core::{COMPONENT_COUNT, EVENT_CAP, Entry};
 use snap_index::Index;
 use std::alloc::{AllocError, Global};
 
@@ -37,7 +37,16 @@ pub fn chain(alloc: Global, index: &Index<'_>, sums: &[u64]) -> Result<Option<Ve
     if some_cross(index, &keys) {
         return Ok(None);
     }
-    keys.sort_unstable();
+    // a key is compared as one number, since the place of a view is less than the limit
+    keys.sort_unstable_by_key(
+        |key| -> u64
+            ensures { result ≡ joined key.now }
+        {
+            key.0
+                .wrapping_mul(EVENT_CAP as u64)
+                .wrapping_add(u64::from(key.1))
+        },
+    );
     if !climbs(index, &keys) {
         return Ok(None);
     }

@@ -56,7 +56,7 @@ overflow_add-views c =
     word_fits (c.loop-number.views + 1) (omega (arith, within, few_views es (subst IsBoundedHistory c.self.view_is c.self.invariant.kept)))
 
 pub loop-number-init : goal.loop-number-init
-loop-number-init c = record { low = omega arith; high = c.requires.order; keys = c.new-keys.ensures.items ∙ sym (none_between (calls_of c.args.self.now) c.args.from) }
+loop-number-init c = record { low = omega arith; high = c.requires.order; keys = c.in_ok-keys.ensures.items ∙ sym (none_between (calls_of c.args.self.now) c.args.from) }
 
 pub returns : goal.returns
 returns c =
