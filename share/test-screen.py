@@ -71,7 +71,7 @@ sums = on_terminal(["--summary", inversion, stale], ["stdout", "stderr"])[0]
 expect("no colours in sums", sums, b"files 2\natomic 0\nonly-regular 1 first %s\nnot-regular 1 first %s\nrefused 0\nfailed 0\n" % (inversion.encode(), stale.encode()))
 
 with tempfile.TemporaryDirectory() as folder:
-    # so many files that the work takes more than the tenth of a second between two lines
+    # enough files that the work takes more than the tenth of a second between two lines
     large = f"{folder}/large.csv"
     with open(large, "w") as file:
         file.write("event,process,op,data\n")

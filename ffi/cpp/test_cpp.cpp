@@ -81,7 +81,7 @@ void try_write() {
 
 void try_refused() {
     const auto judged = snapjudge::check(history("begin,0,update,0:2:7\n"));
-    expect(judged.status == snapjudge::Status::refused && judged.refusal, "a text that is no history");
+    expect(judged.status == snapjudge::Status::refused && judged.refusal, "a text that is not a history");
     expect(judged.refusal && judged.refusal->record == 2 && judged.refusal->word == "number", "why it is none");
     expect(judged.report == "refused record 2: number\n", "the line of that");
     expect(judged.refusal && judged.refusal->sentences.rfind("refused record 2: number\nan update has the next number of its component", 0) == 0,

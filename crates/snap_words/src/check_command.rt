@@ -39,10 +39,10 @@ An atomic history's report ends with an order of its calls that explains every v
 other history's report ends with a line for each kind of fault: how many there are, and
 the first one.
 
-With --quiet only the lines of the three verdicts are printed; the line of a text that is
-no history is printed all the same. With --views N a history with fewer than N completed
-views has status 3: nothing is printed, and standard error says so. So a script that judges
-runs does not take an empty recording for a good one.
+With --quiet it prints only the lines of the three verdicts, or the one line of a text that
+is not a history. With --views N a history with fewer than N completed views has status 3:
+nothing is printed, and standard error says so. So a script that judges runs does not take an
+empty recording for a good one.
 
 A history has at most 65,536 events, and its text 67,108,864 bytes. With --events N it may have N
 events, up to 1,048,576, and its text N times 1,024 bytes. Memory and time rise with them.
@@ -71,7 +71,7 @@ Exit status:
     0  the history is atomic
     1  it is regular, and not atomic
     2  it is not regular
-    3  the text is no history: the one line of the report names the record and its fault;
+    3  the text is not a history: the one line of the report names the record and its fault;
        or it has fewer completed views than --views asks for
     4  reading, writing or memory failed, or a file can't be opened
     5  the words of the command line were not taken";

@@ -36,7 +36,7 @@ Exit status:
     0  the history is atomic
     1  it is regular, and not atomic
     2  it is not regular
-    3  the text is no history: the one line that is written names the record and its fault
+    3  the text is not a history: the one line that is written names the record and its fault
     4  reading, writing or memory failed, or the file can't be opened
     5  the words of the command line were not taken";
 

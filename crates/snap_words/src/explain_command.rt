@@ -35,17 +35,17 @@ it makes
       call 3 of process 2, records 5 and 6: view
       call 1 of process 0, records 2 and 7: update 0:1:7
 
-Of an atomic history the lines of its calls stand in an order that explains each view. Of a
-text that is no history the rule that is broken is told, and the record that breaks it.
+Of an atomic history it writes the calls in an order that explains each view. Of a text that
+is not a history it says which rule is broken, and which record breaks it.
 
-With --draw a picture of the calls concerned stands below, and of calls that overlap them, by
-lines of characters as `snapjudge draw --text` writes them.
+With --draw it adds a picture of the calls concerned, and of calls that overlap them. The
+picture is lines of characters, as `snapjudge draw --text` writes them.
 
 Exit status:
     0  the history is atomic
     1  it is regular, and not atomic
     2  it is not regular
-    3  the text is no history: the first line names the record and its fault
+    3  the text is not a history: the first line names the record and its fault
     4  reading, writing or memory failed, or the file can't be opened
     5  the words of the command line were not taken";
 

@@ -42,13 +42,13 @@ it takes both views and update 0:2, which the second misses:
 An atomic history has no fault, and is written as it is, without stamps.
 
 With --draw the picture of that history is written in its place, by lines of characters as
-`snapjudge draw --text` writes it. A picture is no history, so it can't be judged.
+`snapjudge draw --text` writes it. A picture is not a history, so it can't be judged.
 
 Exit status, of the history that was read:
     0  it is atomic
     1  it is regular, and not atomic
     2  it is not regular
-    3  the text is no history: the one line that is written names the record and its fault
+    3  the text is not a history: the one line that is written names the record and its fault
     4  reading, writing or memory failed, or the file can't be opened
     5  the words of the command line were not taken";
 

@@ -50,7 +50,7 @@ standard error says why, and the others are counted all the same.
 
 Exit status:
     0  the history was counted
-    3  the text is no history: the one line that is written names the record and its fault
+    3  the text is not a history: the one line that is written names the record and its fault
     4  reading, writing or memory failed, or a file can't be opened
     5  the words of the command line were not taken";
 

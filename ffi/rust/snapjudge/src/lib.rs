@@ -132,7 +132,7 @@ impl std::error::Error for Error {}
 /// Why nothing was written into the room for a report.
 #[derive(Clone, Copy, Debug, PartialEq, Eq)]
 pub enum RoomError {
-    /// The report has so many bytes.
+    /// The report has this number of bytes.
     TooLittle(usize),
     /// There is no such limit of events.
     NoLimit(u32),
