@@ -1,6 +1,7 @@
 pub mod Answering
 pub mod Cutting
 pub mod Ending
+pub mod Lacking
 pub mod Missing
 pub mod Opening
 pub mod Placing

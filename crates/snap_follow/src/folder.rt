@@ -1,5 +1,8 @@
 //! A recording whose texts are below a folder.
-ghost use Rattle.std.specs.Prelude.{None};
+ghost use Rattle.std.specs.Prelude.{⊤, ◌≡◌, ◌<◌, ◌^◌, ◌+◌, ◌-◌, IfOk, None, OnOk, length};
+ghost use Rattle.snap_follow.specs.Texts.{WasListed};
+ghost use Rattle.snap_follow.specs.inside.Folders.{KeepsFolder};
+ghost use Rattle.snap_names.specs.Walks.{IsWalk};
 
 use crate::texts::{Longest, Lost, Opened, Reason, Texts, TextsFault, lost_at};
 use snap_names::{Folders, Lengths, NamesFault, Opener, Trouble, names_below};
@@ -39,12 +42,16 @@ impl<'a, F, O> FolderTexts<'a, F, O> {
         }
     }
 
-    fn add_name(&mut self, name: Vec<u8>) -> Result<(), AllocError> {
+    fn add_name(&mut self, name: Vec<u8>) -> Result<(), AllocError>
+        ensures same { KeepsFolder self.old self.new }
+    {
         Ok(self.names.push(name)?)
     }
 
     // Leaves the text at hand, of which `read` bytes were read, and goes on to the next.
-    fn leave(&mut self, read: u64) -> Result<(), AllocError> {
+    fn leave(&mut self, read: u64) -> Result<(), AllocError>
+        ensures { OnOk result (self.old.opened < 2 ^ 64 - 1 → self.new.opened ≡ self.old.opened + 1) }
+    {
         if self.opened > 0 {
             self.lengths.push(read)?;
         }
@@ -55,7 +62,9 @@ impl<'a, F, O> FolderTexts<'a, F, O> {
 
 impl<F, O: Lengths> FolderTexts<'_, F, O> {
     // Refuses the text at hand if it has become shorter.
-    fn check_longest(&mut self, alloc: Global) -> Result<(), TextsFault> {
+    fn check_longest(&mut self, alloc: Global) -> Result<(), TextsFault>
+        ensures same { KeepsFolder self.old self.new }
+    {
         let Some(before) = self.opened.checked_sub(1) else {
             return Ok(());
         };
@@ -77,7 +86,9 @@ impl<F, O: Lengths> FolderTexts<'_, F, O> {
     }
 
     // Takes a name that was listed after those that were found.
-    fn take_name(&mut self, alloc: Global, name: Vec<u8>) -> Result<(), TextsFault> {
+    fn take_name(&mut self, alloc: Global, name: Vec<u8>) -> Result<(), TextsFault>
+        ensures same { KeepsFolder self.old self.new }
+    {
         // a folder that can't be listed is itself among the names, and so is what may not be a text
         if name.as_slice() == self.folder || !name.ends_with(b".csv") {
             return Err(lost_at(alloc, &name, Reason::Unopened(Trouble::Unopened)));
@@ -95,7 +106,9 @@ impl<F, O: Lengths> FolderTexts<'_, F, O> {
 
 impl<F: Folders, O> FolderTexts<'_, F, O> {
     // The names below the folder.
-    fn listed(&self, alloc: Global) -> Result<Vec<Vec<u8>>, TextsFault> {
+    fn listed(&self, alloc: Global) -> Result<Vec<Vec<u8>>, TextsFault>
+        ensures { IfOk result (λ names. IsWalk (F.lists self.now.folders.now) self.now.folder.now names.items) }
+    {
         match names_below(alloc, self.folders, self.folder) {
             Ok(names) => Ok(names),
             Err(NamesFault::TooManyFolders) => {
@@ -108,7 +121,9 @@ impl<F: Folders, O> FolderTexts<'_, F, O> {
 
 impl<F: Folders, O: Lengths> FolderTexts<'_, F, O> {
     // Takes the names below the folder up to this one.
-    fn take_names(&mut self, alloc: Global, last: &[u8]) -> Result<(), TextsFault> {
+    fn take_names(&mut self, alloc: Global, last: &[u8]) -> Result<(), TextsFault>
+        ensures same { KeepsFolder self.old self.new }
+    {
         for name in self.listed(alloc)? {
             if name.as_slice() <= last {
                 self.take_name(alloc, name)?;
@@ -123,6 +138,14 @@ impl<F: Folders, O: Opener + Lengths> Texts for FolderTexts<'_, F, O> {
 
     // the files of a folder may change at any time
     ghost left = { λ _. None };
+
+    ghost count = { λ texts. texts.opened };
+
+    ghost waits = { λ texts. texts.opened < length texts.names.items };
+
+    ghost looked = { λ texts. WasListed (F.lists texts.folders.now) texts.folder.now };
+
+    ghost loses = { λ _ _. ⊤ };
 
     fn has_next(&self) -> bool {
         self.opened < self.names.len()

@@ -1,9 +1,10 @@
 //! The texts of a recording, piece by piece.
-ghost use Rattle.std.specs.Prelude.{◌≡◌, ◌≢◌, ◌≤◌, ◌<◌, ℕ, List, [], true, false, length, IsSome, Some, IfOk, IfErr, IfSome, OnOk};
+ghost use Rattle.std.specs.Prelude.{◌≡◌, ◌≢◌, ◌≤◌, ◌<◌, ℕ, List, [], true, false, length, IsSome, None, Some, IfOk, IfErr, IfSome, OnOk};
 ghost use Rattle.snap_follow.specs.Recordings.{CanBeFollowed};
 ghost use Rattle.snap_follow.specs.inside.Courses.{HasFollowed, StopsIn, StopsLast, TakesBytesFor};
-ghost use Rattle.snap_follow.specs.inside.Runs.{EndsAll, EndsAtHand, EndsLast, GoesOnFrom, IsDone, IsReadOut, IsUnderWay, OnRefusal, ReadsText, StopsEnd, StopsInRest};
-ghost use Rattle.snap_follow.specs.inside.Stops.{IsNoWrite, StopLeaves};
+ghost use Rattle.snap_follow.specs.Texts.{AreNone};
+ghost use Rattle.snap_follow.specs.inside.Runs.{EndsAll, EndsAtHand, EndsLast, GoesOnFrom, IsDone, IsReadOut, IsUnderWay, OnRefusal, ReadsText, SeesNone, StopsEnd, StopsInRest};
+ghost use Rattle.snap_follow.specs.inside.Stops.{IsNoWrite, StopLeaves, StopTells, StopsBy, TellsNothing};
 ghost use Rattle.snap_follow.specs.inside.Sums.{WritesLines};
 ghost use Rattle.snap_follow.specs.Written.{HasSent, Leaves};
 ghost use Rattle.snap_follow.specs.declared.run.FollowFault.TheVariants as faults;
@@ -46,7 +47,7 @@ impl From<AllocError> for Stop {
 }
 
 impl From<TextsFault> for Stop {
-    ghost from_gives = { λ _ stop. (stop ≢ stops.Refused) × IsNoWrite stop };
+    ghost from_gives = { λ fault stop. (stop ≢ stops.Refused) × IsNoWrite stop × StopsBy fault stop };
 
     fn from(fault: TextsFault) -> Stop {
         match fault {
@@ -90,6 +91,7 @@ pub(crate) fn write_lines<W: Write>(
 ) -> Result<(), FollowFault>
     ensures wrote { Leaves W.contents writer.old writer.new result }
     ensures all { OnOk result ((sent : HasSent W.contents writer.old writer.new) × WritesLines answers.old answers.new sent.out) }
+    ensures failed { IfErr result (λ fault. fault ≡ faults.Write) }
 {
     if answers.lines().is_empty() {
         return Ok(());
@@ -122,6 +124,7 @@ fn take_piece<W: Write>(
     ensures taken { OnOk result ((sent : HasSent W.contents writer.old writer.new) × TakesBytesFor sent.out course.old course.new piece.now) }
     ensures refused { IfErr result (λ stop. OnRefusal stop (StopsIn course.old piece.now)) }
     ensures stopped { IfErr result (λ stop. StopLeaves W.contents writer.old writer.new stop) }
+    ensures tells { IfErr result TellsNothing }
 {
     let goes_on = course.take_piece(alloc, piece)?;
     if let Err(fault) = write_lines(writer, &mut course.answers) {
@@ -172,8 +175,10 @@ fn open_next<T: Texts>(
     course: &mut Course,
 ) -> Result<(), Stop>
     ensures opened { OnOk result (at_hand.old.has_next ≡ true → IsReadOut T.Text.remaining at_hand.old.text → GoesOnFrom T.Text.remaining course.old at_hand.old (T.left texts.old) course.new at_hand.new (T.left texts.new)) }
+    ensures none { OnOk result (at_hand.new.text ≡ None → (texts.new ≡ texts.old) × (at_hand.old.text ≡ None)) }
     ensures refused { IfErr result (λ stop. OnRefusal stop (IsSome at_hand.old.text × StopsLast course.old)) }
     ensures no_write { IfErr result IsNoWrite }
+    ensures tells { IfErr result (StopTells (T.loses texts.new) ⊥) }
 {
     if !end_text(alloc, at_hand, course)? {
         return Err(Stop::Refused);
@@ -216,6 +221,7 @@ fn end_reading<R>(
     ensures ended { OnOk result ((IsSome at_hand.now.text) × EndsAll until course.old course.new) }
     ensures refused { IfErr result (λ stop. OnRefusal stop ((IsSome at_hand.now.text) × StopsEnd until course.old)) }
     ensures no_write { IfErr result IsNoWrite }
+    ensures tells { IfErr result (StopTells (λ _. ⊥) (at_hand.now.text ≡ None)) }
 {
     if at_hand.text.is_none() {
         return Err(Stop::Fault(FollowFault::NoText));
@@ -256,8 +262,11 @@ fn go_on<T: Texts, C: Clock>(
 ) -> Result<bool, Stop>
     ensures on { IfOk result (λ goes_on. goes_on ≡ true → IsReadOut T.Text.remaining at_hand.old.text → GoesOnFrom T.Text.remaining course.old at_hand.old (T.left texts.old) course.new at_hand.new (T.left texts.new)) }
     ensures over { IfOk result (λ goes_on. goes_on ≡ false → IfSome (T.left texts.old) (λ later. later ≡ []) × (course.new ≡ course.old) × (at_hand.new ≡ at_hand.old)) }
+    ensures sees { IfOk result (λ _. (first : T) → SeesNone T.count T.looked first texts.old at_hand.old.text pauses.old.is_look_due → SeesNone T.count T.looked first texts.new at_hand.new.text pauses.new.is_look_due) }
+    ensures none { IfOk result (λ goes_on. goes_on ≡ false → (¬ T.waits texts.new) × (pauses.new.is_look_due ≡ false)) }
     ensures refused { IfErr result (λ stop. OnRefusal stop ((at_hand.old.has_next ≡ true) × IsSome at_hand.old.text × StopsLast course.old)) }
     ensures no_write { IfErr result IsNoWrite }
+    ensures tells { IfErr result (StopTells (T.loses texts.new) ⊥) }
 {
     if at_hand.has_next {
         // the next text was there before the last look at this one, so nothing more comes here
@@ -297,6 +306,7 @@ fn read_pieces<Rt: Wait, T: Texts, W: Write, C: Clock>(
     ensures done { OnOk result ((sent : HasSent W.contents writer.old writer.new) × ((least most : ℕ) (all : List (List ℕ)) → IsUnderWay T.Text.remaining course.old at_hand.old (T.left texts.old) [] least most all → IsDone course.new until sent.out least most all)) }
     ensures refused { IfErr result (λ stop. OnRefusal stop ((least most : ℕ) (all : List (List ℕ)) → IsUnderWay T.Text.remaining course.old at_hand.old (T.left texts.old) [] least most all → ¬ CanBeFollowed most until all)) }
     ensures stopped { IfErr result (λ stop. StopLeaves W.contents writer.old writer.new stop) }
+    ensures tells { IfErr result (StopTells (T.loses texts.new) (((least most : ℕ) (all : List (List ℕ)) → IsUnderWay T.Text.remaining course.old at_hand.old (T.left texts.old) [] least most all → all ≡ []) × AreNone T.count T.waits T.looked texts.old texts.new)) }
 {
     let mut pauses = Pauses {
         idle: 0,
@@ -328,6 +338,7 @@ pub(crate) fn read_all<Rt: Wait, T: Texts, W: Write, C: Clock>(
     ensures done { OnOk result ((sent : HasSent W.contents writer.old writer.new) × ((least most : ℕ) → HasFollowed course.old [] least most [] [] [] → IfSome (T.left texts.old) (IsDone course.new until sent.out least most))) }
     ensures refused { IfErr result (λ stop. OnRefusal stop ((least most : ℕ) → HasFollowed course.old [] least most [] [] [] → IfSome (T.left texts.old) (λ all. ¬ CanBeFollowed most until all))) }
     ensures stopped { IfErr result (λ stop. StopLeaves W.contents writer.old writer.new stop) }
+    ensures tells { IfErr result (StopTells (T.loses texts.new) (((least most : ℕ) → HasFollowed course.old [] least most [] [] [] → IfSome (T.left texts.old) (λ all. all ≡ [])) × AreNone T.count T.waits T.looked texts.old texts.new)) }
 {
     let mut piece = Vec::new(alloc);
     piece.resize(PIECE, 0)?;

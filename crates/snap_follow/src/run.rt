@@ -1,11 +1,12 @@
 //! The run that follows a recording, from its texts to a writer.
-ghost use Rattle.std.specs.Prelude.{◌≡◌, ◌≢◌, ◌<◌, ◌↔◌, ◌++◌, ◌∷◌, ℕ, List, [], IsTrue, IsSome, Some, None, IfOk, IfSome, OnOk};
+ghost use Rattle.std.specs.Prelude.{◌≡◌, ◌≢◌, ◌<◌, ◌↔◌, ◌++◌, ◌∷◌, ℕ, List, [], IsTrue, IsSome, Some, None, IfErr, IfOk, IfSome, OnOk};
 ghost use Rattle.std.specs.Io.KnownBytes.{Appends};
 ghost use Rattle.snap_core.specs.Counting.{inner_of};
 ghost use Rattle.snap_core.specs.declared.counted.Counted.{Counted};
 ghost use Rattle.snap_core.specs.declared.event.Event.{Event};
 ghost use Rattle.snap_follow.specs.Followed.{HasRead, IsStatusOf};
 ghost use Rattle.snap_follow.specs.Recordings.{AreFollowed, AreWritten};
+ghost use Rattle.snap_follow.specs.Texts.{AreNone};
 ghost use Rattle.snap_follow.specs.Windows.{Told, sums_text};
 ghost use Rattle.snap_follow.specs.Written.{Leaves};
 ghost use Rattle.snap_follow.specs.inside.Courses.{HasJudged};
@@ -93,6 +94,7 @@ fn write_end<W: Write>(writer: &mut Counted<W>, answers: &mut Answers) -> Result
     ensures wrote { Leaves W.contents writer.old writer.new result }
     ensures told { OnOk result ((told : List Told) → AreSums told answers.old.sums → Appends (W.contents (inner_of writer.old)) (W.contents (inner_of writer.new)) (answers.old.lines ++ sums_text told)) }
     ensures sums { OnOk result (answers.new.sums ≡ answers.old.sums) }
+    ensures tells { IfErr result (λ fault. fault ≢ faults.NoText) }
 {
     answers.add_sums()?;
     write_lines(writer, answers)
@@ -122,6 +124,7 @@ fn end_whole<W: Write>(
     ensures told { IfOk result (λ followed. (gone : List ℕ) (least most : ℕ) (texts : List (List (List ℕ))) (lines : List (List ℕ)) (events : List Event) → HasJudged course.follow course.answers gone least most texts lines events
         → TellsRest (W.contents (inner_of writer.old)) (W.contents (inner_of writer.new)) gone least (texts ++ lines ∷ []) events views followed.code) }
     ensures wrote { Leaves W.contents writer.old writer.new result }
+    ensures tells { IfErr result (λ fault. fault ≢ faults.NoText) }
 {
     let has_rest = course.has_rest();
     let (code, mut answers) = course.finish(alloc)?;
@@ -141,6 +144,8 @@ fn end_early<W: Write>(
 ) -> Result<Followed, FollowFault>
     ensures refused { IfOk result (λ followed. followed.lost ≡ None → (stop ≡ stops.Refused) × (followed.code ≡ Some 3)) }
     ensures lost { IfOk result (λ followed. IsSome followed.lost → followed.code ≡ Some 4) }
+    ensures name { IfOk result (λ followed. IfSome followed.lost (λ lost. stop ≡ stops.Lost lost)) }
+    ensures none { IfErr result (λ fault. fault ≡ faults.NoText → stop ≡ stops.Fault faults.NoText) }
     ensures wrote { (first : Counted W) → StopLeaves W.contents first writer.old stop → Leaves W.contents first writer.new result }
 {
     let (code, lost) = match stop {
@@ -165,6 +170,8 @@ fn end_early<W: Write>(
 ///
 /// Only whole lines go out, however it ends. After `Write` a front of whole lines went out, perhaps all of them. `Write` comes only
 /// if the writer's count of failures rose, or is at its last value. Otherwise that count is as it was.
+///
+/// `NoText` comes only if texts were looked for, and none was found or opened. A name is lost only where the texts lose it.
 pub fn follow_run<Rt: Wait, T: Texts, W: Write, C: Clock>(
     rt: &Rt,
     alloc: Global,
@@ -176,6 +183,9 @@ pub fn follow_run<Rt: Wait, T: Texts, W: Write, C: Clock>(
     ensures whole { IfOk result (λ followed. IfSome (T.left texts.old) (λ all. AreFollowed asked all followed)) }
     ensures told { IfOk result (λ followed. IfSome (T.left texts.old) (λ all. AreWritten asked all followed (W.contents (inner_of writer.old)) (W.contents (inner_of writer.new)))) }
     ensures lost { IfOk result (λ followed. IsSome followed.lost → followed.code ≡ Some 4) }
+    ensures name { IfOk result (λ followed. IfSome followed.lost (T.loses texts.new)) }
+    ensures none { IfErr result (λ fault. fault ≡ faults.NoText → IfSome (T.left texts.old) (λ all. all ≡ [])) }
+    ensures looked { IfErr result (λ fault. fault ≡ faults.NoText → AreNone T.count T.waits T.looked texts.old texts.new) }
     ensures wrote { Leaves W.contents writer.old writer.new result }
 {
     let mut course = Course::new(alloc, asked.least, asked.most);

@@ -1,6 +1,6 @@
 //! Where the texts of a recording come from.
-ghost use Rattle.std.specs.Prelude.{◌≡◌, ◌≢◌, ◌↔◌, ℕ, List, [], Option, Some, None, IsTrue, IfOk, IfSome, OnOk, MatchOption};
-ghost use Rattle.snap_follow.specs.Texts.{Comes, alone};
+ghost use Rattle.std.specs.Prelude.{⊤, ◌≡◌, ◌≢◌, ◌↔◌, ◌+◌, ℕ, List, [], Option, Some, None, IsTrue, IfErr, IfOk, IfSome, OnOk, MatchOption};
+ghost use Rattle.snap_follow.specs.Texts.{Comes, IsShorter, OnLost, alone, taken};
 
 use snap_names::{Lengths, Trouble};
 use std::alloc::{AllocError, Global};
@@ -54,18 +54,36 @@ pub struct Opened<R> {
 
 /// The texts of a recording, one after the other.
 pub trait Texts {
+    ghost use Rattle.snap_follow.specs.declared.texts.Lost.{Lost};
+
     type Text: Read + Drop;
 
     /// The bytes of the texts that are still to be opened, if they are known. Then no other text comes.
     ghost left: { Self → Option (List (List ℕ)) };
 
+    /// The number of texts that were opened.
+    ghost count: { Self → ℕ };
+
+    /// A text was found after those that were opened.
+    ghost waits: { Self → Type 0 };
+
+    /// Texts may have been looked for.
+    ghost looked: { Self → Type 0 };
+
+    /// The recording may end too soon at this name, for this reason.
+    ghost loses: { Self → Lost → Type 0 };
+
     /// Whether a text was found after those that were opened.
     fn has_next(&self) -> bool
-        ensures { IfSome (left self.now) (λ texts. IsTrue result ↔ (texts ≢ [])) };
+        ensures known { IfSome (left self.now) (λ texts. IsTrue result ↔ (texts ≢ [])) }
+        ensures found { IsTrue result ↔ waits self.now };
 
     /// Looks for texts that have come.
     fn look(&mut self, alloc: Global) -> Result<(), TextsFault>
-        ensures { OnOk result (IfSome (left self.old) (λ texts. left self.new ≡ Some texts)) };
+        ensures known { OnOk result (IfSome (left self.old) (λ texts. left self.new ≡ Some texts)) }
+        ensures same { OnOk result (count self.new ≡ count self.old) }
+        ensures done { OnOk result (looked self.new) }
+        ensures lost { IfErr result (OnLost (loses self.new)) };
 
     /// Opens the next text that was found, and leaves the one before it, of which `read` bytes were read. None if none was found.
     fn open_next(
@@ -73,11 +91,15 @@ pub trait Texts {
         alloc: Global,
         read: u64,
     ) -> Result<Option<Opened<Self::Text>>, TextsFault>
-        ensures { IfOk result (λ found. MatchOption found (IfSome (left self.old) (λ texts. texts ≡ [])) (λ opened. Comes (left self.old) (left self.new) (Self.Text.remaining opened.text))) };
+        ensures known { IfOk result (λ found. MatchOption found (IfSome (left self.old) (λ texts. texts ≡ [])) (λ opened. Comes (left self.old) (left self.new) (Self.Text.remaining opened.text))) }
+        ensures counts { IfOk result (λ found. MatchOption found (self.new ≡ self.old) (λ _. count self.new ≡ count self.old + 1)) }
+        ensures lost { IfErr result (OnLost (loses self.new)) };
 }
 
 // A name at which the recording ends.
-pub(crate) fn lost_at(alloc: Global, name: &[u8], reason: Reason) -> TextsFault {
+pub(crate) fn lost_at(alloc: Global, name: &[u8], reason: Reason) -> TextsFault
+    ensures { OnLost (λ lost. (lost.name.items ≡ name.now) × (lost.reason ≡ reason)) result }
+{
     match Vec::from_slice(alloc, name) {
         Ok(name) => TextsFault::Lost(Lost { name, reason }),
         Err(_) => TextsFault::Memory,
@@ -142,6 +164,15 @@ impl<R: Read + Drop, O: Lengths> Texts for FileText<'_, R, O> {
 
     ghost left = { λ texts. alone R.remaining texts.text.text };
 
+    ghost count = { λ texts. taken texts.text.text };
+
+    ghost waits = { λ texts. texts.text.text ≢ None };
+
+    ghost looked = { λ _. ⊤ };
+
+    // only what has become shorter is lost
+    ghost loses = { λ texts lost. IsShorter texts.name.now lost };
+
     fn has_next(&self) -> bool {
         self.text.has_next()
     }
@@ -177,6 +208,14 @@ impl<R: Read + Drop> Texts for OneText<R> {
     type Text = R;
 
     ghost left = { λ texts. alone R.remaining texts.text };
+
+    ghost count = { λ texts. taken texts.text };
+
+    ghost waits = { λ texts. texts.text ≢ None };
+
+    ghost looked = { λ _. ⊤ };
+
+    ghost loses = { λ _ _. ⊥ };
 
     fn has_next(&self) -> bool {
         self.text.is_some()

@@ -1,5 +1,5 @@
 -- What the run of a recording has taken, if its texts are known.
-use Rattle.std.specs.Prelude.{⊤, ℕ, true, List, [], ◌∷◌, ◌++◌, ◌≡◌, ◌≢◌, ◌<◌, ◌⊎◌, Option, Some, None, IfSome, length, take, flat_map}
+use Rattle.std.specs.Prelude.{⊤, ℕ, Bool, false, true, List, [], ◌∷◌, ◌++◌, ◌≡◌, ◌≢◌, ◌<◌, ◌⊎◌, Option, Some, None, IfSome, length, take, flat_map}
 use Rattle.std.specs.List.{AllZip}
 use Rattle.std.specs.Io.KnownBytes.{Consumes, IsAtEnd}
 use Rattle.snap_core.specs.declared.event.Event.{Event}
@@ -74,6 +74,10 @@ GoesOnFor out remaining course hand left new_course new_hand new_left =
 abbrev pub IsTellingFrom : {R W : Type 0} → (W → Option (List ℕ)) → (R → Option (List ℕ)) → Counted W → Counted W → Course → AtHand R → Option (List (List ℕ)) → Course → AtHand R → Option (List (List ℕ)) → Type 0
 IsTellingFrom contents remaining first now course hand left new_course new_hand new_left =
     (sent : HasSent contents first now) × ((least most : ℕ) (all : List (List ℕ)) → IsUnderWay remaining course hand left [] least most all → IsUnderWay remaining new_course new_hand new_left sent.out least most all)
+
+-- if no text is at hand, none was opened since the run began. If no look is due, texts were looked for
+abbrev pub SeesNone : {R T : Type 0} → (T → ℕ) → (T → Type 0) → T → T → Option R → Bool → Type 0
+SeesNone count looked first now text is_due = text ≡ None → (count now ≡ count first) × (is_due ≡ false → looked now)
 
 -- the last text has ended
 abbrev pub EndsLast : Until → Course → Course → Type 0

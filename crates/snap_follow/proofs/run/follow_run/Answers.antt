@@ -1,6 +1,7 @@
 use Rattle.snap_core.specs.Counting.{inner_of}
 use Rattle.snap_follow.proofs.Answering.{refused_answer, unwritten_answer, whole_answer, written_answer}
 use Rattle.snap_follow.proofs.Ending.{on_refusal}
+use Rattle.snap_follow.proofs.Lacking.{answers_name, answers_none, answers_other, not_lost, tells_as}
 use Rattle.snap_follow.proofs.Sending.{leaves_after}
 use Rattle.snap_follow.proofs.run.follow_run.Goals as goal
 
@@ -31,3 +32,26 @@ returns-in-Ok-clause-wrote g c = leaves_after g.W.Write.contents c.args.writer.n
 
 pub returns-in-Err-clause-wrote : goal.returns-in-Err-clause-wrote
 returns-in-Err-clause-wrote g c = c.end_early.ensures.wrote c.args.writer.now c.in-Err.ensures.stopped
+
+pub returns-in-Ok-clause-name : goal.returns-in-Ok-clause-name
+returns-in-Ok-clause-name g c = not_lost c.end_whole.result (g.T.Texts.loses c.read_all.new.texts) c.end_whole.ensures.lost
+
+pub returns-in-Err-clause-name : goal.returns-in-Err-clause-name
+returns-in-Err-clause-name g c = answers_name c.end_early.result (g.T.Texts.loses c.read_all.new.texts) _ c.in-Err.stop c.end_early.ensures.name c.in-Err.ensures.tells
+
+pub returns-in-Ok-clause-none : goal.returns-in-Ok-clause-none
+returns-in-Ok-clause-none g c = answers_other c.end_whole.result _ c.end_whole.ensures.tells
+
+pub returns-in-Err-clause-none : goal.returns-in-Err-clause-none
+returns-in-Err-clause-none g c =
+    let loses = g.T.Texts.loses c.read_all.new.texts in
+    answers_none c.end_early.result loses _ c.in-Err.stop c.end_early.ensures.none
+    (tells_as loses loses _ _ c.in-Err.stop (λ lost is. is) (λ both. both.0 c.args.asked.least c.args.asked.most.events c.new-course.ensures) c.in-Err.ensures.tells)
+
+pub returns-in-Ok-clause-looked : goal.returns-in-Ok-clause-looked
+returns-in-Ok-clause-looked g c = answers_other c.end_whole.result _ c.end_whole.ensures.tells
+
+pub returns-in-Err-clause-looked : goal.returns-in-Err-clause-looked
+returns-in-Err-clause-looked g c =
+    let loses = g.T.Texts.loses c.read_all.new.texts in
+    answers_none c.end_early.result loses _ c.in-Err.stop c.end_early.ensures.none (tells_as loses loses _ _ c.in-Err.stop (λ lost is. is) (λ both. both.1) c.in-Err.ensures.tells)
