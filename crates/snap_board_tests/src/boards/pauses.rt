@@ -28,7 +28,10 @@ fn each_seed_draws_each_place(rt: HostRuntime) {
     for seed in SEEDS {
         for step in STEPS {
             for place in 0..PLACES {
-                assert!(rt; is_eighth(count_at(*seed, *step, place)), "{seed} {step} {place}");
+                assert!(rt;
+                    is_eighth(count_at(*seed, *step, place)),
+                    "{seed} {step} {place}"
+                );
             }
         }
     }
@@ -45,7 +48,10 @@ fn count_same(one: u32, other: u32) -> usize {
 fn two_seeds_draw_the_same_place_by_chance_alone(rt: HostRuntime) {
     for one in SEEDS {
         for other in SEEDS {
-            assert!(rt; one == other || is_eighth(count_same(*one, *other)), "{one} {other}");
+            assert!(rt;
+                one == other || is_eighth(count_same(*one, *other)),
+                "{one} {other}"
+            );
         }
     }
 }
