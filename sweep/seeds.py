@@ -4,9 +4,11 @@
 usage: seeds.py [PROGRAM]; it is built/snapjudge by default
 
 Of a store the seed and the stamp of its begin draw one of eight places. Two of them are pauses: before its write, and behind it. While
-a store pauses, calls of other workers begin. So of the stores that the seed draws more have a begin inside than of the others. For a
-seed that was not given this is not so. That shows by chance in hardly any run, and a test has five runs.
+a store pauses, calls of other workers begin. So more of the stores that the seed draws have a begin inside than of the others. For a
+seed that was not given both shares are the same, but for chance. Of both the test knows the standard deviation, and asks for more than
+five of them. It takes up to ten runs of a seed together, since on a busy machine few calls overlap.
 """
+import math
 import os
 import subprocess
 import sys
@@ -16,7 +18,9 @@ SCATTER = 0x9E3779B97F4A7C15
 MASK = 2**64 - 1
 SEEDS = (0, 1, 77, 4294967295)
 ROUNDS = "2048"
-TRIES = 5
+RUNS = 10
+# By how many standard deviations two shares differ by more than chance.
+SURE = 5
 
 
 def drawn_place(seed, tick, places):
@@ -48,21 +52,22 @@ def share(stores):
 
 
 def gain(stores, seed):
-    """How much greater the share is among the stores that a seed draws to pause, than among the others."""
+    """By how many standard deviations the share is greater among the stores that a seed draws to pause than among the others."""
     parts = [], []
     for store in stores:
         parts[drawn_place(seed, store[0], 8) < 2].append(store)
-    return share(parts[1]) - share(parts[0])
+    deviation = math.sqrt(share(stores) * (1 - share(stores)) * sum(1 / len(part) for part in parts))
+    return (share(parts[1]) - share(parts[0])) / (deviation or 1)
 
 
 def is_drawn(program, seed):
-    """Whether some run with a seed has the pauses of that seed, and not those of any other; and what the gains were in the last run."""
-    gains = {}
-    for _ in range(TRIES):
+    """Whether runs with a seed have the pauses of that seed and of no other; and the gains of each seed."""
+    stores, gains = [], {}
+    for _ in range(RUNS):
         words = [program, "record", "--stamped", "--workers", "2", "--rounds", ROUNDS, "--seed", str(seed)]
-        stores = stores_of(subprocess.run(words, check=True, capture_output=True, text=True).stdout)
+        stores += stores_of(subprocess.run(words, check=True, capture_output=True, text=True).stdout)
         gains = {other: gain(stores, other) for other in SEEDS}
-        if all(gains[seed] > 0.05 and gains[other] < gains[seed] / 2 for other in SEEDS if other != seed):
+        if all(it > SURE if other == seed else it < SURE - 1 for other, it in gains.items()):
             return True, gains
     return False, gains
 
@@ -76,8 +81,8 @@ def main():
     for seed in SEEDS:
         is_right, gains = is_drawn(program, seed)
         found.append(is_right)
-        said = ", ".join(f"{other}: {100 * it:.1f}" for other, it in gains.items())
-        print(f"seeds: the seed {seed}: {'passed' if is_right else 'failed'}; more of the stores that a seed draws have a begin inside, % by seed: {said}")
+        said = ", ".join(f"{it:.1f} of {other}" for other, it in gains.items())
+        print(f"seeds: the seed {seed}: {'passed' if is_right else 'failed'}; standard deviations by which more stores overlap, of each seed: {said}")
     print(f"{sum(found)} passed, {len(found) - sum(found)} failed")
     return 0 if all(found) else 1
 
