@@ -2,7 +2,7 @@
 _snapjudge() {
   local word=${COMP_WORDS[COMP_CWORD]} before=${COMP_WORDS[COMP_CWORD - 1]} words=
   case $before in
-    --pieces | --workers | --views | --events | --window | --idle | --rounds) return ;;
+    --pieces | --workers | --views | --events | --window | --idle | --rounds | --seed) return ;;
     --color) mapfile -t COMPREPLY < <(compgen -W 'auto always never' -- "$word"); return ;;
     --files-from) mapfile -t COMPREPLY < <(compgen -f -- "$word"); return ;;
     -r | --recursive) mapfile -t COMPREPLY < <(compgen -d -- "$word"); return ;;
@@ -17,7 +17,7 @@ _snapjudge() {
       [[ ${COMP_WORDS[1]} != @(shrink|explain) ]] || words='--draw --events --help'
       [[ $word == -* ]] || { mapfile -t COMPREPLY < <(compgen -f -- "$word"); return; }
       ;;
-    record) words='--workers --rounds --events --scan --judge --stamped --help' ;;
+    record) words='--workers --rounds --events --seed --scan --judge --stamped --help' ;;
     *) words='check shrink explain draw stats record --help --version -V' ;;
   esac
   mapfile -t COMPREPLY < <(compgen -W "$words" -- "$word")

@@ -28,6 +28,7 @@ complete -c snapjudge -n '__fish_seen_subcommand_from stats' -x -l format -a 'pl
 complete -c snapjudge -n '__fish_seen_subcommand_from record' -f
 complete -c snapjudge -n '__fish_seen_subcommand_from record' -x -l workers -d 'Threads, 2 to 8'
 complete -c snapjudge -n '__fish_seen_subcommand_from record' -x -l rounds -d 'Rounds, 1 to 2048'
+complete -c snapjudge -n '__fish_seen_subcommand_from record' -x -l seed -d 'Number that draws where calls pause, 0 to 4294967295'
 complete -c snapjudge -n '__fish_seen_subcommand_from record' -l scan -d 'Scans in place of collects'
 complete -c snapjudge -n '__fish_seen_subcommand_from record' -l judge -d 'Write the report'
 complete -c snapjudge -n '__fish_seen_subcommand_from record' -l stamped -d 'Write stamps'

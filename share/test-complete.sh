@@ -28,7 +28,7 @@ for shell in bash zsh fish; do
   completes "snapjudge check --color " "always auto never"
   completes "snapjudge check --files-from t" two.csv
   completes "snapjudge check --quiet --pi" --pieces
-  completes "snapjudge record --" "--events --help --judge --rounds --scan --stamped --workers"
+  completes "snapjudge record --" "--events --help --judge --rounds --scan --seed --stamped --workers"
   completes "snapjudge record --scan --r" --rounds
   completes "snapjudge draw --" "--events --help --svg --text"
   completes "snapjudge shrink --" "--draw --events --help"

@@ -1,7 +1,7 @@
 #!/usr/bin/env bash
 # Records runs of three and more workers, and judges each. With scans every run is atomic. Without them every run is regular, and
 # some run is not atomic: it is looked for until it comes, since on a machine with few processors many runs may be atomic by chance.
-# The last line is 'N passed, M failed'.
+# seeds.py tries the seeds of runs. The last line is 'N passed, M failed'.
 # usage: scans.sh [PROGRAM]; it is built/snapjudge by default
 case ${1-} in
   -h | --help)
@@ -66,6 +66,11 @@ try scans 4
 try scans 8
 try races 4
 try races 8
+if "$here/seeds.py" "$program"; then
+  passed=$((passed + 1))
+else
+  failed=$((failed + 1))
+fi
 
 echo "$passed passed, $failed failed"
 [ "$failed" = 0 ]

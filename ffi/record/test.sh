@@ -31,7 +31,7 @@ ends() {
 }
 
 # What a driver writes after the counts of verdicts.
-overlaps='; [0-9]+ of [0-9]+ views overlapped an update, in [0-9]+ of [0-9]+ runs$'
+overlaps='; [0-9]+ of [0-9]+ views overlapped an update, in [0-9]+ of (1 run|(0|[2-9]|[1-9][0-9]+) runs)$'
 
 # counts STATUS NAME ATOMIC ONLY-REGULAR NOT-REGULAR COMMAND ..: the driver ends so, and writes one line, with these counts of verdicts
 counts() {
@@ -289,6 +289,7 @@ drivers() {
   try "$language: updates that fail" fails
   try "$language: updates that are tried again" counts 0 retries 5 0 0 "${faulty[@]}" retries --components 1 --nap 40 --calls 60 --runs 5
   try "$language: a view that gives up" unseen "gives-up: few views: 0 views ended in 2 runs, fewer than 1: " gives-up --runs 2
+  try "$language: a view that gives up in one run" unseen "gives-up: few views: 0 views ended in 1 run, fewer than 1: " gives-up --runs 1
   try "$language: the same where no view is asked for" counts 0 gives-up 2 0 0 "${faulty[@]}" gives-up --runs 2 --views 0
   try "$language: too few views" unseen "slow: few views: " slow --components 1 --calls 10 --runs 1 --views 41
   try "$language: too few views of a caught run" counts 2 stale 0 0 3 "${faulty[@]}" "${small_run[@]}" --views 1000

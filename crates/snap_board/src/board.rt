@@ -15,6 +15,7 @@ ghost use Rattle.snap_board.specs.Settled.{AreUpTo, Settled, ScansSettled, Ticks
 ghost use Rattle.snap_board.specs.Scans.{scan_history};
 
 use crate::desk_state::DeskState;
+use crate::pauses::drawn_place;
 use crate::record::{Record, RecordedOp};
 use crate::refusals::OpenRefusal;
 use crate::slots::{all_in, fresh, highest, last_stores};
@@ -31,16 +32,6 @@ pub const DESK_LIMIT: usize = 8;
 // The greatest number of words of a board: the clock, and one for each desk.
 const WORD_LIMIT: usize = DESK_LIMIT + 1;
 
-// A tick times this has upper bits without the patterns of the ticks of a desk's calls.
-const SCATTER: u64 = 0x9E37_79B9_7F4A_7C15;
-
-// One of `places` places, drawn by a tick.
-fn drawn(tick: u64, places: u64) -> u64
-    requires { 0 < places }
-{
-    (tick.wrapping_mul(SCATTER) >> 32) % places
-}
-
 /// A board of atomic words: a clock, and one word for each desk's component.
 #[derive(Drop)]
 pub struct Board {
@@ -48,8 +39,8 @@ pub struct Board {
     pub(crate) desks: u8,
     // the number of ticks that each desk may draw
     pub(crate) limit: TickLimit,
-    // whether desks give up their turn within calls
-    pauses: bool,
+    // the seed that draws where desks give up their turn within calls, if they do
+    pauses: Option<u32>,
 }
 
 impl Model for Board {
@@ -107,27 +98,37 @@ impl Board {
                 table,
                 desks,
                 limit,
-                pauses: false,
+                pauses: None,
             },
             Gathered { seat, desks, slots },
         ))
     }
 
-    /// The same board with pauses. A desk gives up its turn before one load of each collect, and between the begin and the write of
-    /// some stores. So the calls of several threads overlap. The ticks draw which load and which stores. Each answer is one that a
-    /// board without pauses may give.
-    pub fn with_pauses(mut self) -> Board
+    /// The same board with pauses, drawn by the seed 0.
+    pub fn with_pauses(self) -> Board
         ensures { result ≡ self }
     {
-        self.pauses = true;
+        self.with_seeded_pauses(0)
+    }
+
+    /// The same board with pauses. A desk gives up its turn before one load of each collect. In some stores it does so between the
+    /// begin and the write, and in others between the write and the end. So the calls of several threads overlap. The seed and the
+    /// ticks draw which load and which stores: [`drawn_place`]. Each answer is one that a board without pauses may give.
+    pub fn with_seeded_pauses(mut self, seed: u32) -> Board
+        ensures { result ≡ self }
+    {
+        self.pauses = Some(seed);
         self
     }
 
-    // Gives up the turn, if the board has pauses and the tick draws this one of `places` places.
+    // Gives up the turn, if the board has pauses and its seed and the tick draw this one of `places` places.
     pub(crate) fn pause_at(&self, place: u8, places: u8, tick: u64)
         requires { 0 < places }
     {
-        if self.pauses && drawn(tick, u64::from(places)) == u64::from(place) {
+        let Some(seed) = self.pauses else {
+            return;
+        };
+        if drawn_place(seed, tick, u64::from(places)) == u64::from(place) {
             thread::yield_now();
         }
     }

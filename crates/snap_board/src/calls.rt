@@ -20,8 +20,13 @@ use std::alloc::Global;
 /// The word of a component is its number times this, plus its value.
 const NUMBER_UNIT: u64 = 4_294_967_296;
 
-// One of this many stores has a pause, if the board has pauses.
+// One of this many stores has a pause before its write, and another one has a pause behind it, if the board has pauses.
 const STORES_A_PAUSE: u8 = 8;
+
+// Which of them have a pause before the write, and which behind it.
+const BEFORE_WRITE: u8 = 0;
+
+const BEHIND_WRITE: u8 = 1;
 
 // Lists the components whose words have a number.
 fn list_words(words: &Vec<u64>, entries: &mut Vec<Entry>)
@@ -92,8 +97,9 @@ impl Board {
         let begun = shared.fetch_add::<BeginStore>(&mut desk.seat, 0, 1);
         let number = desk.kept.stores + 1;
         let word = u64::from(number) * NUMBER_UNIT + u64::from(value);
-        self.pause_at(0, STORES_A_PAUSE, begun);
+        self.pause_at(BEFORE_WRITE, STORES_A_PAUSE, begun);
         shared.store::<WriteWord>(&mut desk.seat, usize::from(desk.desk) + 1, word);
+        self.pause_at(BEHIND_WRITE, STORES_A_PAUSE, begun);
         let ended = shared.fetch_add::<EndCall>(&mut desk.seat, 0, 1);
         desk.kept = DeskState {
             ticks: desk.kept.ticks + 2,
@@ -108,7 +114,8 @@ impl Board {
         Ok(desk.answer(begun, ended, RecordedOp::Stored(entry)))
     }
 
-    // Loads the word of each component, from 0 on, with a pause before one of the loads. The tick before the loads draws which.
+    // Loads the word of each component, from 0 on, with a pause before one of the loads. The tick before the loads draws which, with
+    // the seed.
     pub(crate) fn load_words(&self, seat: &mut Seat<(), Accounts>, words: &mut Vec<u64>, tick: u64)
         requires seat { seat.old.table_id ≡ self.now.board }
         requires ready { (seat.old.me ≡ has_read seat.old.me []) × HasRead (doing_of seat.old.me.0) [] }

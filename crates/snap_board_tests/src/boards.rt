@@ -12,6 +12,7 @@ use std::alloc::Global;
 use std::process::Abort;
 use std::test::Fail;
 
+mod pauses;
 mod scans;
 
 // The highest of the desks that are in.

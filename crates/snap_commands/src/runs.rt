@@ -15,8 +15,8 @@ use crate::outlet::Outlet;
 use snap_check::{RunFault, Status};
 use snap_core::{Counted, Limit};
 use snap_runs::{
-    Explained, Lines, Page, Svg, draw_run, draw_witness_run, explain_run, record_rounds,
-    record_rounds_stamped, shrink_run, stats_run,
+    Explained, Lines, Page, Svg, draw_run, draw_witness_run, explain_run, record_seeded_rounds,
+    record_seeded_rounds_stamped, shrink_run, stats_run,
 };
 use snap_words::Form;
 use std::alloc::Global;
@@ -161,7 +161,8 @@ pub fn stats<Rt: Threads + Sync>(
     code_of(ended, &writer.into_inner())
 }
 
-// Records a run of `workers` workers and `rounds` rounds. Writes its report, or its history with stamps or without.
+// Records a run of `workers` workers and `rounds` rounds, with the pauses that the seed draws. Writes its report, or its history with
+// stamps or without.
 fn record_to<Rt: Threads + Wait + Sync, W: Write>(
     rt: &Rt,
     alloc: Global,
@@ -171,20 +172,21 @@ fn record_to<Rt: Threads + Wait + Sync, W: Write>(
     judge: bool,
     scan: bool,
     stamped: bool,
+    seed: u32,
 ) -> Result<Status, RunFault>
     requires { AreWorkers workers × AreRounds rounds }
     ensures recording { stamped ≡ false → WroteAs (IsRecorded judge (rounds_scripts scan workers rounds)) (W.contents (inner_of writer.old)) (W.contents (inner_of writer.new)) result }
     ensures stamped { stamped ≡ true → WroteAs (IsStampedRecording (rounds_scripts scan workers rounds)) (W.contents (inner_of writer.old)) (W.contents (inner_of writer.new)) result }
 {
     if stamped {
-        record_rounds_stamped(rt, alloc, workers, rounds, scan, writer)
+        record_seeded_rounds_stamped(rt, alloc, workers, rounds, scan, seed, writer)
     } else {
-        record_rounds(rt, alloc, workers, rounds, judge, scan, writer)
+        record_seeded_rounds(rt, alloc, workers, rounds, judge, scan, seed, writer)
     }
 }
 
-/// Records a run of `workers` workers and `rounds` rounds, with scans or without. Writes its report, or its history with stamps or
-/// without. It gives the exit status.
+/// Records a run of `workers` workers and `rounds` rounds, with scans or without. The seed draws where calls pause. Writes the run's
+/// report, or its history with stamps or without. It gives the exit status.
 pub fn record<Rt: Threads + Wait + Sync>(
     rt: &Rt,
     host: &HostRuntime,
@@ -193,6 +195,7 @@ pub fn record<Rt: Threads + Wait + Sync>(
     judge: bool,
     scan: bool,
     stamped: bool,
+    seed: u32,
 ) -> Result<u8, Failure>
     requires { AreWorkers workers × AreRounds rounds }
 {
@@ -206,6 +209,7 @@ pub fn record<Rt: Threads + Wait + Sync>(
         judge,
         scan,
         stamped,
+        seed,
     );
     code_of(ended, &writer.into_inner())
 }

@@ -62,6 +62,8 @@ pub enum PlanRefusal {
 pub struct Plan {
     scripts: Vec<Vec<Step>>,
     limit: Limit,
+    // the seed that draws the pauses of a recording
+    seed: u32,
 }
 
 impl Model for Plan {
@@ -166,7 +168,25 @@ impl Plan {
         if !are_short(&scripts, limit) || !each_draws(&scripts, most) {
             return Err(PlanRefusal::TooLong);
         }
-        Ok(Plan { scripts, limit })
+        Ok(Plan {
+            scripts,
+            limit,
+            seed: 0,
+        })
+    }
+
+    /// The same plan with another seed than 0. A recording of the plan draws by the seed where its calls pause, as
+    /// `Board::with_seeded_pauses` says. What is promised of a recording does not depend on the seed.
+    pub fn with_seed(mut self, seed: u32) -> Plan
+        ensures { result ≡ self }
+    {
+        self.seed = seed;
+        self
+    }
+
+    // The seed that draws the pauses of a recording.
+    pub(crate) fn seed(&self) -> u32 {
+        self.seed
     }
 
     // The limit of the recording's events.

@@ -78,13 +78,14 @@ fn workers_of(
     Ok(all)
 }
 
-// A board with pauses and a relay for this many workers, each of whom may draw this many ticks. With them come the board's gathered
-// desks, of which none is left, a worker for each desk, the highest first, and the relay's taker.
+// A board with the pauses of a seed and a relay for this many workers, each of whom may draw this many ticks. With them come the
+// board's gathered desks, of which none is left, a worker for each desk, the highest first, and the relay's taker.
 fn start_workers<R: Wait>(
     rt: &R,
     alloc: Global,
     workers: u8,
     ticks: TickLimit,
+    seed: u32,
 ) -> Result<(Recorder, Gathered, Vec<Worker>, Taker), AllocError>
     requires { AreWorkers workers }
     ensures board { IfOk result (λ r. (r.0.board.desks ≡ workers) × (r.0.board.limit ≡ ticks.ticks)) }
@@ -99,7 +100,7 @@ fn start_workers<R: Wait>(
     };
     let (relay, senders, taker) = Relay::start(rt, alloc, workers)?;
     let recorder = Recorder {
-        board: board.with_pauses(),
+        board: board.with_seeded_pauses(seed),
         relay,
     };
     let all = workers_of(alloc, &recorder, &mut gathered, senders)?;
@@ -231,6 +232,7 @@ fn run_plan<R: Threads + Wait + Sync, G: Gate>(
         alloc,
         plan.workers(),
         plan.ticks(),
+        plan.seed(),
     )?;
     let (rans, taken) = run_all(rt, alloc, &recorder, plan, workers, taker, gate)?;
     let (relay, senders, interfered) = close_all(alloc, recorder, plan, gathered, rans)?;
@@ -240,7 +242,7 @@ fn run_plan<R: Threads + Wait + Sync, G: Gate>(
 
 /// Records what the workers of a plan do on a board with a desk for each. Each does the script of its number. Worker 0 runs on the
 /// calling thread, and so does each other worker for which no thread can be started. A worker gives up its turn within a collect,
-/// and within some stores, so that calls overlap.
+/// and within some stores, so that calls overlap. The plan's seed draws where.
 ///
 /// The gate is called as `at(w, t)` when t of worker w's calls have answered, for t from 0 to the script's length. If memory is
 /// refused in a worker, it ends its script there, and the answer is then `Memory`. The records come to the calling thread through a

@@ -80,6 +80,7 @@ fn is_recording(job: &Job, wanted: (u32, u32), flags: Flags) -> bool {
             judge,
             scan,
             stamped,
+            ..
         } => { (*workers, *rounds) == wanted && (*judge, *scan, *stamped) == flags }
         _ => false,
     }
@@ -90,6 +91,27 @@ fn record_takes_workers_rounds_and_flags(rt: HostRuntime) -> Result<(), Fail> {
     for (line, workers, rounds, flags) in RECORDS {
         if !is_recording(&job_on(rt.alloc(), line, &[])?, (*workers, *rounds), *flags) {
             return Err(Fail::from(*line));
+        }
+    }
+    Ok(())
+}
+
+// The seed of the recording that each line asks for.
+const SEEDS: &[(&str, u32)] = &[
+    ("snapjudge record", 0),
+    ("snapjudge record --seed 0", 0),
+    ("snapjudge record --seed 1 --rounds 7", 1),
+    ("snapjudge record --rounds 7 --scan --judge --seed=77", 77),
+    ("snapjudge record --stamped --seed 0077", 77),
+    ("snapjudge record --seed 4294967295", 4_294_967_295),
+];
+
+#[test]
+fn record_takes_a_seed(rt: HostRuntime) -> Result<(), Fail> {
+    for (line, wanted) in SEEDS {
+        match job_on(rt.alloc(), line, &[])? {
+            Job::Record { seed, .. } => assert_eq!(rt; seed, *wanted),
+            _ => return Err(Fail::from(*line)),
         }
     }
     Ok(())

@@ -17,7 +17,9 @@ pub use draw_witness::{draw_witness_input, draw_witness_run};
 pub use explain::{explain_input, explain_run};
 pub use markup::{Explained, Lines, Markup, Page, Svg};
 pub use recording::{record_run, record_run_stamped};
-pub use rounds::{record_rounds, record_rounds_stamped};
+pub use rounds::{
+    record_rounds, record_rounds_stamped, record_seeded_rounds, record_seeded_rounds_stamped,
+};
 pub use shrink::{shrink_input, shrink_run};
 pub use stats::{stats_input, stats_run};
 pub use tell::{tell_input, tell_run};

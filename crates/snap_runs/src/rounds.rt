@@ -15,13 +15,19 @@ use std::io::Write;
 use std::sync::Wait;
 use std::thread::Threads;
 
-// Workers in rounds of a store and a view each, or with `scan` a scan in place of the view.
-fn plan_of(alloc: Global, workers: u32, rounds: u32, scan: bool) -> Result<Plan, AllocError>
+// Workers in rounds of a store and a view each, or with `scan` a scan in place of the view. The seed draws the pauses.
+fn plan_of(
+    alloc: Global,
+    workers: u32,
+    rounds: u32,
+    scan: bool,
+    seed: u32,
+) -> Result<Plan, AllocError>
     requires { AreWorkers workers × AreRounds rounds }
     ensures { IfOk result (λ plan. plan.scripts ≡ rounds_scripts scan workers rounds) }
 {
     match rounds_plan_within(alloc, workers, rounds, scan, Limit::greatest()) {
-        Ok(plan) => Ok(plan),
+        Ok(plan) => Ok(plan.with_seed(seed)),
         Err(PlanRefusal::Memory) => Err(AllocError),
         Err(_) => unreachable!(),
     }
@@ -42,7 +48,25 @@ pub fn record_rounds<Rt: Threads + Wait + Sync, W: Write>(
     ensures wrote { WroteAs (IsRecorded judge (rounds_scripts scan workers rounds)) (W.contents (inner_of writer.old)) (W.contents (inner_of writer.new)) result }
     ensures counts { WriteCounts (failures_in writer.old) (failures_in writer.new) result }
 {
-    let plan = plan_of(alloc, workers, rounds, scan)?;
+    record_seeded_rounds(rt, alloc, workers, rounds, judge, scan, 0, writer)
+}
+
+/// Records the rounds of `record_rounds`, with the pauses that a seed draws: `Plan::with_seed`. `record_rounds` has the seed 0.
+pub fn record_seeded_rounds<Rt: Threads + Wait + Sync, W: Write>(
+    rt: &Rt,
+    alloc: Global,
+    workers: u32,
+    rounds: u32,
+    judge: bool,
+    scan: bool,
+    seed: u32,
+    writer: &mut Counted<W>,
+) -> Result<Status, RunFault>
+    requires { AreWorkers workers × AreRounds rounds }
+    ensures wrote { WroteAs (IsRecorded judge (rounds_scripts scan workers rounds)) (W.contents (inner_of writer.old)) (W.contents (inner_of writer.new)) result }
+    ensures counts { WriteCounts (failures_in writer.old) (failures_in writer.new) result }
+{
+    let plan = plan_of(alloc, workers, rounds, scan, seed)?;
     record_run(
         rt,
         alloc,
@@ -67,6 +91,23 @@ pub fn record_rounds_stamped<Rt: Threads + Wait + Sync, W: Write>(
     ensures wrote { WroteAs (IsStampedRecording (rounds_scripts scan workers rounds)) (W.contents (inner_of writer.old)) (W.contents (inner_of writer.new)) result }
     ensures counts { WriteCounts (failures_in writer.old) (failures_in writer.new) result }
 {
-    let plan = plan_of(alloc, workers, rounds, scan)?;
+    record_seeded_rounds_stamped(rt, alloc, workers, rounds, scan, 0, writer)
+}
+
+/// Records the rounds of `record_rounds_stamped`, with the pauses that a seed draws.
+pub fn record_seeded_rounds_stamped<Rt: Threads + Wait + Sync, W: Write>(
+    rt: &Rt,
+    alloc: Global,
+    workers: u32,
+    rounds: u32,
+    scan: bool,
+    seed: u32,
+    writer: &mut Counted<W>,
+) -> Result<Status, RunFault>
+    requires { AreWorkers workers × AreRounds rounds }
+    ensures wrote { WroteAs (IsStampedRecording (rounds_scripts scan workers rounds)) (W.contents (inner_of writer.old)) (W.contents (inner_of writer.new)) result }
+    ensures counts { WriteCounts (failures_in writer.old) (failures_in writer.new) result }
+{
+    let plan = plan_of(alloc, workers, rounds, scan, seed)?;
     record_run_stamped(rt, alloc, &plan, writer, &Pace::of(workers))
 }

@@ -235,21 +235,24 @@ stats_of events json files words taken named format_is limit once files_are =
     }) files_are
 
 -- lines of `record` with 2 workers, as where nothing else is said
-pub usual_record : {said : Option Text} → (events : ℕ) (words : List Text) (rounds : ℕ) (flags : Flags)
+pub usual_record : {said : Option Text} → {sown : Text} → (events : ℕ) (words : List Text) (rounds seed : ℕ) (flags : Flags)
     → takes program_app words ≡ true → command_in (subcommand_of program_app words) ≡ Some (codes "record")
-    → AsksLimit events (rows_by words) → AreRoundsWithin events rounds → (flags.judge ≡ true → flags.stamped ≡ false)
+    → AsksLimit events (rows_by words) → AreRoundsWithin events rounds → seed ≤ NUMBER_LIMIT → (flags.judge ≡ true → flags.stamped ≡ false)
     → one_of (codes "workers") (rows_by words) ≡ Some (codes "2") → one_of (codes "rounds") (rows_by words) ≡ said → SaysOr (usual_rounds events) said rounds
+    → one_of (codes "seed") (rows_by words) ≡ Some sown → sown ≡ decimal seed
     → one_of (codes "judge") (rows_by words) ≡ Some (flag_text flags.judge) → one_of (codes "scan") (rows_by words) ≡ Some (flag_text flags.scan)
     → one_of (codes "stamped") (rows_by words) ≡ Some (flag_text flags.stamped) → files_of (rows_by words) ≡ []
-    → Means words (codes "record") (λ rows. AsksRecordWithin events rows 2 rounds flags) []
-usual_record events words rounds flags taken named limit rounds_fit one_output workers said_is rounds_are judge_is scan_is stamped_is files_are =
-    means words (codes "record") (λ rows. AsksRecordWithin events rows 2 rounds flags) [] taken named (record {
+    → Means words (codes "record") (λ rows. AsksRecordWithin events rows 2 rounds seed flags) []
+usual_record events words rounds seed flags taken named limit rounds_fit seed_fits one_output workers said_is rounds_are sown_is seed_is judge_is scan_is stamped_is files_are =
+    means words (codes "record") (λ rows. AsksRecordWithin events rows 2 rounds seed flags) [] taken named (record {
       limit = limit;
       workers_fit = (omega arith, omega arith);
       rounds_fit = rounds_fit;
+      seed_fits = seed_fits;
       one_output = one_output;
       workers_are = workers ∙ ap Some (sym two_text);
       rounds_are = subst (λ text. SaysOr (usual_rounds events) text rounds) (sym said_is) rounds_are;
+      seed_is = sown_is ∙ ap Some seed_is;
       judge_is = judge_is;
       scan_is = scan_is;
       stamped_is = stamped_is;

@@ -23,6 +23,9 @@ pub number_said : (text : Option Text) (found : Option ℕ) (usual n : ℕ) → 
 number_said None found usual n absent given is = ap (λ (f : Option ℕ). unwrap_or f usual) (absent refl) ∙ sym is
 number_said (Some text) found usual n absent given is = ap (λ (f : Option ℕ). unwrap_or f usual) (given (ap Some is))
 
+pub zero_text : decimal 0 ≡ codes "0"
+zero_text = decimal_digit 0 (omega arith)
+
 pub two_text : decimal 2 ≡ codes "2"
 two_text = decimal_digit 2 (omega arith)
 

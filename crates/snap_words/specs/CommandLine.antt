@@ -127,6 +127,10 @@ rounds_rule = record (new_rule (codes "rounds")) { long = Some (codes "rounds");
 abbrev pub recorded_rule : Rule
 recorded_rule = record (new_rule (codes "events")) { long = Some (codes "events"); value_names = 1; parser = Some (Signed (pos (4 * worker_limit)) (pos event_cap)); defaults = codes "65536" ∷ [] }
 
+-- --seed N, or 0 if it is not given; the parser takes any number of 32 bits
+abbrev pub seed_rule : Rule
+seed_rule = record (new_rule (codes "seed")) { long = Some (codes "seed"); value_names = 1; parser = Some (Signed (pos 0) (pos NUMBER_LIMIT)); defaults = codes "0" ∷ [] }
+
 -- --judge
 abbrev pub judge_rule : Rule
 judge_rule = record (new_rule (codes "judge")) { long = Some (codes "judge"); action = Some SetTrue }
@@ -139,9 +143,9 @@ scan_rule = record (new_rule (codes "scan")) { long = Some (codes "scan"); actio
 abbrev pub stamped_rule : Rule
 stamped_rule = record (new_rule (codes "stamped")) { long = Some (codes "stamped"); action = Some SetTrue }
 
--- record [--workers W] [--rounds R] [--events N] [--judge] [--scan] [--stamped]
+-- record [--workers W] [--rounds R] [--events N] [--seed N] [--judge] [--scan] [--stamped]
 abbrev pub record_app : App
-record_app = with_rules (new_app (codes "record")) (recorders_rule ∷ rounds_rule ∷ recorded_rule ∷ judge_rule ∷ scan_rule ∷ stamped_rule ∷ [])
+record_app = with_rules (new_app (codes "record")) (recorders_rule ∷ rounds_rule ∷ recorded_rule ∷ seed_rule ∷ judge_rule ∷ scan_rule ∷ stamped_rule ∷ [])
 
 -- the command of a kind
 abbrev pub app_for : Kind → App

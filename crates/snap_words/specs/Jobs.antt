@@ -39,7 +39,7 @@ IsInRange (Shrink drawn limit file) = IsLimit limit.events
 IsInRange (Explain drawn limit file) = IsLimit limit.events
 IsInRange (Draw form limit file) = IsLimit limit.events
 IsInRange (Stats json limit files) = IsLimit limit.events
-IsInRange (Record workers rounds judge scan stamped) = AreWorkers workers × AreRounds rounds × (judge ≡ true → stamped ≡ false)
+IsInRange (Record workers rounds judge scan stamped seed) = AreWorkers workers × AreRounds rounds × (judge ≡ true → stamped ≡ false)
 
 -- the texts of some names, and of one that may be absent
 abbrev pub texts_of : List (Vec ℕ) → List Text
@@ -93,7 +93,7 @@ IsCheck asked files (Shrink drawn limit file) = ⊥
 IsCheck asked files (Explain drawn limit file) = ⊥
 IsCheck asked files (Draw form limit file) = ⊥
 IsCheck asked files (Stats json limit names) = ⊥
-IsCheck asked files (Record w rounds judge scan stamped) = ⊥
+IsCheck asked files (Record w rounds judge scan stamped seed) = ⊥
 
 -- the job judges a recording while it grows: the only one of these files, with windows of at most `events` events
 abbrev pub IsFollow : ℕ → Windows → List Text → Job → Type 0
@@ -103,7 +103,7 @@ IsFollow events windows files (Shrink drawn limit file) = ⊥
 IsFollow events windows files (Explain drawn limit file) = ⊥
 IsFollow events windows files (Draw form limit file) = ⊥
 IsFollow events windows files (Stats json limit names) = ⊥
-IsFollow events windows files (Record w rounds judge scan stamped) = ⊥
+IsFollow events windows files (Record w rounds judge scan stamped seed) = ⊥
 
 -- the job cuts down the history in the first of these files, of at most `events` events, to a text or to its picture
 abbrev pub IsShrink : ℕ → Bool → List Text → Job → Type 0
@@ -113,7 +113,7 @@ IsShrink events drawn files (Shrink asked limit file) = (asked ≡ drawn) × (li
 IsShrink events drawn files (Explain asked limit file) = ⊥
 IsShrink events drawn files (Draw form limit file) = ⊥
 IsShrink events drawn files (Stats json limit names) = ⊥
-IsShrink events drawn files (Record w rounds judge scan stamped) = ⊥
+IsShrink events drawn files (Record w rounds judge scan stamped seed) = ⊥
 
 -- the job explains it, with a picture or without
 abbrev pub IsExplain : ℕ → Bool → List Text → Job → Type 0
@@ -123,7 +123,7 @@ IsExplain events drawn files (Shrink asked limit file) = ⊥
 IsExplain events drawn files (Explain asked limit file) = (asked ≡ drawn) × (limit.events ≡ events) × (text_of file ≡ first_name files)
 IsExplain events drawn files (Draw form limit file) = ⊥
 IsExplain events drawn files (Stats json limit names) = ⊥
-IsExplain events drawn files (Record w rounds judge scan stamped) = ⊥
+IsExplain events drawn files (Record w rounds judge scan stamped seed) = ⊥
 
 -- the job draws it in a form
 abbrev pub IsDraw : ℕ → Form → List Text → Job → Type 0
@@ -133,7 +133,7 @@ IsDraw events form files (Shrink drawn limit file) = ⊥
 IsDraw events form files (Explain drawn limit file) = ⊥
 IsDraw events form files (Draw asked limit file) = (asked ≡ form) × (limit.events ≡ events) × (text_of file ≡ first_name files)
 IsDraw events form files (Stats json limit names) = ⊥
-IsDraw events form files (Record w rounds judge scan stamped) = ⊥
+IsDraw events form files (Record w rounds judge scan stamped seed) = ⊥
 
 -- the job counts what the history in each of these files has shown, as objects or as lines
 abbrev pub IsStats : ℕ → Bool → List Text → Job → Type 0
@@ -143,7 +143,7 @@ IsStats events json files (Shrink drawn limit file) = ⊥
 IsStats events json files (Explain drawn limit file) = ⊥
 IsStats events json files (Draw form limit file) = ⊥
 IsStats events json files (Stats asked limit names) = (asked ≡ json) × (limit.events ≡ events) × (texts_of names.items ≡ files)
-IsStats events json files (Record w rounds judge scan stamped) = ⊥
+IsStats events json files (Record w rounds judge scan stamped seed) = ⊥
 
 -- the flags of a recording: its report in place of its history, scans in place of views, and the stamps of its events
 pub record Flags : Type 0 where
@@ -154,16 +154,16 @@ pub record Flags : Type 0 where
 abbrev pub no_flags : Flags
 no_flags = record { judge = false; scan = false; stamped = false }
 
--- the job is a recording of this many workers and rounds with these flags
-abbrev pub IsRecord : ℕ → ℕ → Flags → Job → Type 0
-IsRecord workers rounds flags (Check cutting limit options input) = ⊥
-IsRecord workers rounds flags (Follow limit windows file) = ⊥
-IsRecord workers rounds flags (Shrink drawn limit file) = ⊥
-IsRecord workers rounds flags (Explain drawn limit file) = ⊥
-IsRecord workers rounds flags (Draw form limit file) = ⊥
-IsRecord workers rounds flags (Stats json limit names) = ⊥
-IsRecord workers rounds flags (Record w r judge scan stamped) =
-    (w ≡ workers) × (r ≡ rounds) × (judge ≡ flags.judge) × (scan ≡ flags.scan) × (stamped ≡ flags.stamped)
+-- the job is a recording of this many workers and rounds, with the pauses of this seed and with these flags
+abbrev pub IsRecord : ℕ → ℕ → ℕ → Flags → Job → Type 0
+IsRecord workers rounds seed flags (Check cutting limit options input) = ⊥
+IsRecord workers rounds seed flags (Follow limit windows file) = ⊥
+IsRecord workers rounds seed flags (Shrink drawn limit file) = ⊥
+IsRecord workers rounds seed flags (Explain drawn limit file) = ⊥
+IsRecord workers rounds seed flags (Draw form limit file) = ⊥
+IsRecord workers rounds seed flags (Stats json limit names) = ⊥
+IsRecord workers rounds seed flags (Record w r judge scan stamped s) =
+    (w ≡ workers) × (r ≡ rounds) × (s ≡ seed) × (judge ≡ flags.judge) × (scan ≡ flags.scan) × (stamped ≡ flags.stamped)
 
 -- the text of a flag that was given or not given
 abbrev pub flag_text : Bool → List ℕ
@@ -299,15 +299,17 @@ pub record AsksFollow (events : ℕ) (rows : List Row) (windows : Windows) : Typ
 abbrev pub usual_rounds : ℕ → ℕ
 usual_rounds events = min 16 (events / (4 * worker_limit))
 
--- The options of `record` have these numbers of workers and rounds. The rounds are those of --rounds or the usual ones, in their
--- range for the limit of events. Each flag is given or not, but they do not ask for a report with stamps.
-pub record AsksRecordWithin (events : ℕ) (rows : List Row) (workers rounds : ℕ) (flags : Flags) : Type 0 where
+-- The options of `record` have these numbers of workers and rounds, and this seed. The rounds are those of --rounds or the usual
+-- ones, in their range for the limit of events. Each flag is given or not, but they do not ask for a report with stamps.
+pub record AsksRecordWithin (events : ℕ) (rows : List Row) (workers rounds seed : ℕ) (flags : Flags) : Type 0 where
   pub limit : AsksLimit events rows
   pub workers_fit : AreWorkers workers
   pub rounds_fit : AreRoundsWithin events rounds
+  pub seed_fits : seed ≤ NUMBER_LIMIT
   pub one_output : flags.judge ≡ true → flags.stamped ≡ false
   pub workers_are : one_of (codes "workers") rows ≡ Some (decimal workers)
   pub rounds_are : SaysOr (usual_rounds events) (one_of (codes "rounds") rows) rounds
+  pub seed_is : one_of (codes "seed") rows ≡ Some (decimal seed)
   pub judge_is : one_of (codes "judge") rows ≡ Some (flag_text flags.judge)
   pub scan_is : one_of (codes "scan") rows ≡ Some (flag_text flags.scan)
   pub stamped_is : one_of (codes "stamped") rows ≡ Some (flag_text flags.stamped)
@@ -322,5 +324,5 @@ pub record AsksTooManyRounds (rows : List Row) : Type 0 where
   pub too_many : events < 4 * worker_limit * rounds
 
 -- what `record` asks for if no limit of events is chosen
-abbrev pub AsksRecord : List Row → ℕ → ℕ → Flags → Type 0
+abbrev pub AsksRecord : List Row → ℕ → ℕ → ℕ → Flags → Type 0
 AsksRecord = AsksRecordWithin event_limit

@@ -146,12 +146,13 @@ fn judged_in(matches: &ArgMatches<'_>, input: Input) -> Option<Job>
 // The recording that the options of `record` ask for.
 fn record_in(matches: &ArgMatches<'_>) -> Option<Job>
     ensures job { IfSome result IsInRange }
-    ensures asked { (events workers rounds : ℕ) (flags : Flags) → AsksRecordWithin events (rows_of (found_of matches.now)) workers rounds flags → IsSomeAnd result (IsRecord workers rounds flags) }
+    ensures asked { (events workers rounds seed : ℕ) (flags : Flags) → AsksRecordWithin events (rows_of (found_of matches.now)) workers rounds seed flags → IsSomeAnd result (IsRecord workers rounds seed flags) }
     ensures overfull { AsksTooManyRounds (rows_of (found_of matches.now)) → IsNone result }
 {
     let events = events_in(matches)?;
     let workers = number_in(matches, "workers")?;
     let rounds = number_or(matches, "rounds", rounds_for(events));
+    let seed = number_in(matches, "seed")?;
     let judge = flag_in(matches, "judge");
     let stamped = flag_in(matches, "stamped");
     if workers < LEAST_WORKERS
@@ -167,6 +168,7 @@ fn record_in(matches: &ArgMatches<'_>) -> Option<Job>
         judge,
         scan: flag_in(matches, "scan"),
         stamped,
+        seed,
     })
 }
 

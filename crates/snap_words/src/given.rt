@@ -251,9 +251,9 @@ pub fn wanted_by(alloc: Global, words: Words) -> Result<Job, JobFault>
         → Means (map string_bytes words.texts.items) (codes "stats") (AsksStatsWithin events json) files
         → MatchResult result (IsStats events json files) (λ fault. fault ≡ JobFault.Memory) }
     ensures repeated { (files : List Text) → Means (map string_bytes words.texts.items) (codes "stats") NamesInputTwice files → IsErr result }
-    ensures recording { (events workers rounds : ℕ) (flags : Flags) (files : List Text) → words.others.items ≡ []
-        → Means (map string_bytes words.texts.items) (codes "record") (λ rows. AsksRecordWithin events rows workers rounds flags) files
-        → MatchResult result (IsRecord workers rounds flags) (λ fault. fault ≡ JobFault.Memory) }
+    ensures recording { (events workers rounds seed : ℕ) (flags : Flags) (files : List Text) → words.others.items ≡ []
+        → Means (map string_bytes words.texts.items) (codes "record") (λ rows. AsksRecordWithin events rows workers rounds seed flags) files
+        → MatchResult result (IsRecord workers rounds seed flags) (λ fault. fault ≡ JobFault.Memory) }
     ensures overfull { (files : List Text) → Means (map string_bytes words.texts.items) (codes "record") AsksTooManyRounds files → IsErr result }
 {
     let Words { texts, others } = words;

@@ -89,14 +89,15 @@ pub enum Job {
         limit: Limit,
         files: Vec<Vec<u8>>,
     },
-    /// Record `workers` workers in `rounds` rounds of a store and a view, or a scan in place of the view. Judge the history if that
-    /// is asked for, or write it with the stamps of its events, but not both.
+    /// Record `workers` workers in `rounds` rounds of a store and a view, or a scan in place of the view. The seed draws where calls
+    /// pause. Judge the history if that is asked for, or write it with the stamps of its events, but not both.
     Record {
         workers: u32,
         rounds: u32,
         judge: bool,
         scan: bool,
         stamped: bool,
+        seed: u32,
     },
 }
 
@@ -189,9 +190,9 @@ pub fn job_of(alloc: Global, words: Vec<String>) -> Result<Job, JobFault>
         → Means (map string_bytes words.items) (codes "stats") (AsksStatsWithin events json) files
         → MatchResult result (IsStats events json files) (λ fault. fault ≡ JobFault.Memory) }
     ensures repeated { (files : List Text) → Means (map string_bytes words.items) (codes "stats") NamesInputTwice files → IsErr result }
-    ensures recording { (events workers rounds : ℕ) (flags : Flags) (files : List Text)
-        → Means (map string_bytes words.items) (codes "record") (λ rows. AsksRecordWithin events rows workers rounds flags) files
-        → MatchResult result (IsRecord workers rounds flags) (λ fault. fault ≡ JobFault.Memory) }
+    ensures recording { (events workers rounds seed : ℕ) (flags : Flags) (files : List Text)
+        → Means (map string_bytes words.items) (codes "record") (λ rows. AsksRecordWithin events rows workers rounds seed flags) files
+        → MatchResult result (IsRecord workers rounds seed flags) (λ fault. fault ≡ JobFault.Memory) }
     ensures overfull { (files : List Text) → Means (map string_bytes words.items) (codes "record") AsksTooManyRounds files → IsErr result }
 {
     let command = program(alloc)?;

@@ -57,13 +57,14 @@ pub fn stats_lines()
 {}
 
 /// What lines of `record` ask for. Without options they are 2 workers and 16 rounds of views, or fewer rounds if the limit of
-/// events allows no more. A line that asks for more rounds than that is refused.
+/// events allows no more, and the seed 0. A line that asks for more rounds than that is refused.
 pub fn record_lines()
-    ensures alone { (name : Text) → Means (name ∷ codes "record" ∷ []) (codes "record") (λ rows. AsksRecord rows 2 16 no_flags) [] }
-    ensures judged { (name : Text) → Means (name ∷ codes "record" ∷ codes "--rounds" ∷ codes "5" ∷ codes "--judge" ∷ []) (codes "record") (λ rows. AsksRecord rows 2 5 (record no_flags { judge = true })) [] }
-    ensures scanned { (name : Text) → Means (name ∷ codes "record" ∷ codes "--scan" ∷ []) (codes "record") (λ rows. AsksRecord rows 2 16 (record no_flags { scan = true })) [] }
-    ensures stamped { (name : Text) → Means (name ∷ codes "record" ∷ codes "--stamped" ∷ []) (codes "record") (λ rows. AsksRecord rows 2 16 (record no_flags { stamped = true })) [] }
-    ensures events { (name : Text) → Means (name ∷ codes "record" ∷ codes "--events" ∷ codes "1048576" ∷ codes "--rounds" ∷ codes "32768" ∷ []) (codes "record") (λ rows. AsksRecordWithin 1048576 rows 2 32768 no_flags) [] }
-    ensures few { (name : Text) → Means (name ∷ codes "record" ∷ codes "--events" ∷ codes "100" ∷ []) (codes "record") (λ rows. AsksRecordWithin 100 rows 2 3 no_flags) [] }
+    ensures alone { (name : Text) → Means (name ∷ codes "record" ∷ []) (codes "record") (λ rows. AsksRecord rows 2 16 0 no_flags) [] }
+    ensures judged { (name : Text) → Means (name ∷ codes "record" ∷ codes "--rounds" ∷ codes "5" ∷ codes "--judge" ∷ []) (codes "record") (λ rows. AsksRecord rows 2 5 0 (record no_flags { judge = true })) [] }
+    ensures scanned { (name : Text) → Means (name ∷ codes "record" ∷ codes "--scan" ∷ []) (codes "record") (λ rows. AsksRecord rows 2 16 0 (record no_flags { scan = true })) [] }
+    ensures stamped { (name : Text) → Means (name ∷ codes "record" ∷ codes "--stamped" ∷ []) (codes "record") (λ rows. AsksRecord rows 2 16 0 (record no_flags { stamped = true })) [] }
+    ensures seeded { (name : Text) → Means (name ∷ codes "record" ∷ codes "--seed" ∷ codes "5" ∷ []) (codes "record") (λ rows. AsksRecord rows 2 16 5 no_flags) [] }
+    ensures events { (name : Text) → Means (name ∷ codes "record" ∷ codes "--events" ∷ codes "1048576" ∷ codes "--rounds" ∷ codes "32768" ∷ []) (codes "record") (λ rows. AsksRecordWithin 1048576 rows 2 32768 0 no_flags) [] }
+    ensures few { (name : Text) → Means (name ∷ codes "record" ∷ codes "--events" ∷ codes "100" ∷ []) (codes "record") (λ rows. AsksRecordWithin 100 rows 2 3 0 no_flags) [] }
     ensures overfull { (name : Text) → Means (name ∷ codes "record" ∷ codes "--rounds" ∷ codes "2049" ∷ []) (codes "record") AsksTooManyRounds [] }
 {}

@@ -37,6 +37,11 @@ draws a stamp between two readings, until two readings in a row are equal; this 
 is its view. The history is then always atomic. A scan that has found none after 64 stamps is
 left out.
 
+Within some calls a thread gives up its turn, so that calls overlap: before one of the readings
+of a view, and before or behind the writing of a store. --seed N draws where, by the stamp of
+the call. Another N draws other places. The same N does not give the same run: threads run as
+the system lets them, and so calls get other stamps in each run.
+
 With --judge it prints the history's report in place of the history: see
 `snapjudge check --help`. With --stamped each record has its event's stamp before the other
 fields, and the header the word at. Not both can be asked for.
@@ -86,6 +91,18 @@ const WORDS: &[Word<'static>] = &[
             usual: "65536",
         },
         help: "How many events a history may have, from 32 to 1048576, of 1024 bytes of text each",
+    },
+    Word {
+        id: "seed",
+        long: Some("seed"),
+        short: None,
+        takes: Takes::NumberOr {
+            name: "N",
+            least: 0,
+            most: NUMBER_LIMIT as i64,
+            usual: "0",
+        },
+        help: "Which places within calls a thread gives up its turn at, from 0 to 4294967295",
     },
     Word {
         id: "judge",

@@ -38,6 +38,7 @@ pub(crate) fn done<Rt: Threads + Wait + Sync>(
             judge,
             scan,
             stamped,
-        } => record(rt, host, workers, rounds, judge, scan, stamped),
+            seed,
+        } => record(rt, host, workers, rounds, judge, scan, stamped, seed),
     }
 }

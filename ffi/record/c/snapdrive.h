@@ -434,12 +434,18 @@ static inline uint64_t snapdrive_runs(const snapdrive_outcome *outcome) {
     return outcome->found[0] + outcome->found[1] + outcome->found[2];
 }
 
+/* The word for this many runs. */
+static inline const char *snapdrive_called(uint64_t runs) {
+    return runs == 1 ? "run" : "runs";
+}
+
 static inline void snapdrive_tell(const snapdrive_outcome *outcome, FILE *to) {
+    uint64_t runs = snapdrive_runs(outcome);
     fprintf(to,
             "atomic %" PRIu64 ", only-regular %" PRIu64 ", not-regular %" PRIu64 "; %" PRIu64 " of %" PRIu64
-            " views overlapped an update, in %" PRIu64 " of %" PRIu64 " runs\n",
-            outcome->found[0], outcome->found[1], outcome->found[2], outcome->overlapping, outcome->views, outcome->overlapped,
-            snapdrive_runs(outcome));
+            " views overlapped an update, in %" PRIu64 " of %" PRIu64 " %s\n",
+            outcome->found[0], outcome->found[1], outcome->found[2], outcome->overlapping, outcome->views, outcome->overlapped, runs,
+            snapdrive_called(runs));
 }
 
 /* Whether the runs say something of the object: some run was not atomic, or enough views ended and one of them overlapped an update. */
@@ -447,11 +453,11 @@ static inline bool snapdrive_has_looked(const snapdrive_options *options, snapdr
     uint64_t runs = snapdrive_runs(outcome);
     if (outcome->first || !options->views) return true;
     if (outcome->views < options->views)
-        return snapdrive_failed(outcome, "few views", "%" PRIu64 " views ended in %" PRIu64 " runs, fewer than %" PRIu64
-                                ": there is no verdict", outcome->views, runs, options->views);
+        return snapdrive_failed(outcome, "few views", "%" PRIu64 " views ended in %" PRIu64 " %s, fewer than %" PRIu64
+                                ": there is no verdict", outcome->views, runs, snapdrive_called(runs), options->views);
     if (outcome->overlapping) return true;
     return snapdrive_failed(outcome, "no overlap", "none of %" PRIu64 " views overlapped an update in %" PRIu64
-                            " runs: there is no verdict on calls at the same time", outcome->views, runs);
+                            " %s: there is no verdict on calls at the same time", outcome->views, runs, snapdrive_called(runs));
 }
 
 /* Runs fresh objects, and counts the verdicts. Of the first run that is not atomic it keeps NAME-caught.csv, the history,

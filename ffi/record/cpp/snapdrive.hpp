@@ -76,10 +76,11 @@ struct Outcome {
 
     std::uint64_t caught() const { return only_regular + not_regular; }
     std::uint64_t runs() const { return atomic + caught(); }
+    std::string counted_runs() const { return std::to_string(runs()) + (runs() == 1 ? " run" : " runs"); }
     std::string text() const {
         return "atomic " + std::to_string(atomic) + ", only-regular " + std::to_string(only_regular) + ", not-regular " +
                std::to_string(not_regular) + "; " + std::to_string(overlapping) + " of " + std::to_string(views) +
-               " views overlapped an update, in " + std::to_string(overlapped) + " of " + std::to_string(runs()) + " runs";
+               " views overlapped an update, in " + std::to_string(overlapped) + " of " + counted_runs();
     }
 };
 
@@ -413,7 +414,7 @@ inline void test(const Options &options) {
 
 // Throws if the runs say nothing of the object: all were atomic, and too few views ended, or none of them overlapped an update.
 inline void test_looked(const Options &options, const Outcome &outcome) {
-    const std::string runs = std::to_string(outcome.runs()) + " runs", views = std::to_string(outcome.views) + " views";
+    const std::string runs = outcome.counted_runs(), views = std::to_string(outcome.views) + " views";
     if (outcome.first != 0 || options.views == 0) return;
     if (outcome.views < options.views)
         throw Error("few views", views + " ended in " + runs + ", fewer than " + std::to_string(options.views) + ": there is no verdict");

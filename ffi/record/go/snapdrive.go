@@ -103,9 +103,16 @@ func (outcome Outcome) caught() uint64 { return outcome.OnlyRegular + outcome.No
 
 func (outcome Outcome) runs() uint64 { return outcome.Atomic + outcome.caught() }
 
+func (outcome Outcome) countedRuns() string {
+	if outcome.runs() == 1 {
+		return "1 run"
+	}
+	return fmt.Sprintf("%d runs", outcome.runs())
+}
+
 func (outcome Outcome) String() string {
-	return fmt.Sprintf("atomic %d, only-regular %d, not-regular %d; %d of %d views overlapped an update, in %d of %d runs",
-		outcome.Atomic, outcome.OnlyRegular, outcome.NotRegular, outcome.Overlapping, outcome.Views, outcome.Overlapped, outcome.runs())
+	return fmt.Sprintf("atomic %d, only-regular %d, not-regular %d; %d of %d views overlapped an update, in %d of %s",
+		outcome.Atomic, outcome.OnlyRegular, outcome.NotRegular, outcome.Overlapping, outcome.Views, outcome.Overlapped, outcome.countedRuns())
 }
 
 // A DriveError is why runs have no verdict. Its name is usage, limits, view, died, hangs, few views, no overlap, no judge, no verdict
@@ -349,11 +356,11 @@ func testLooked(options Options, outcome Outcome) error {
 		return nil
 	}
 	if outcome.Views < options.Views {
-		return failed("few views", "%d views ended in %d runs, fewer than %d: there is no verdict", outcome.Views, outcome.runs(), options.Views)
+		return failed("few views", "%d views ended in %s, fewer than %d: there is no verdict", outcome.Views, outcome.countedRuns(), options.Views)
 	}
 	if outcome.Overlapping == 0 {
-		return failed("no overlap", "none of %d views overlapped an update in %d runs: there is no verdict on calls at the same time",
-			outcome.Views, outcome.runs())
+		return failed("no overlap", "none of %d views overlapped an update in %s: there is no verdict on calls at the same time",
+			outcome.Views, outcome.countedRuns())
 	}
 	return nil
 }

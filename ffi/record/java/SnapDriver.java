@@ -189,10 +189,14 @@ public final class SnapDriver {
             return atomic + caught();
         }
 
+        private String countedRuns() {
+            return runs() + (runs() == 1 ? " run" : " runs");
+        }
+
         @Override
         public String toString() {
             String verdicts = "atomic " + atomic + ", only-regular " + onlyRegular + ", not-regular " + notRegular;
-            String seen = overlapping + " of " + views + " views overlapped an update, in " + overlapped + " of " + runs() + " runs";
+            String seen = overlapping + " of " + views + " views overlapped an update, in " + overlapped + " of " + countedRuns();
             return verdicts + "; " + seen;
         }
 
@@ -201,10 +205,10 @@ public final class SnapDriver {
             if (first > 0 || asked == 0) return;
             if (views < asked)
                 throw new DriveException(
-                    "few views", views + " views ended in " + runs() + " runs, fewer than " + asked + ": there is no verdict");
+                    "few views", views + " views ended in " + countedRuns() + ", fewer than " + asked + ": there is no verdict");
             if (overlapping == 0)
-                throw new DriveException("no overlap", "none of " + views + " views overlapped an update in " + runs()
-                    + " runs: there is no verdict on calls at the same time");
+                throw new DriveException("no overlap", "none of " + views + " views overlapped an update in " + countedRuns()
+                    + ": there is no verdict on calls at the same time");
         }
     }
 

@@ -120,6 +120,10 @@ class Outcome:
     def runs(self):
         return self.atomic + self.caught
 
+    @property
+    def counted_runs(self):
+        return f"{self.runs} run" if self.runs == 1 else f"{self.runs} runs"
+
     def add(self, views, overlapping):
         self.views += views
         self.overlapping += overlapping
@@ -130,14 +134,14 @@ class Outcome:
         if self.first or not asked:
             return
         if self.views < asked:
-            raise DriveError("few views", f"{self.views} views ended in {self.runs} runs, fewer than {asked}: there is no verdict")
+            raise DriveError("few views", f"{self.views} views ended in {self.counted_runs}, fewer than {asked}: there is no verdict")
         if not self.overlapping:
-            none = f"none of {self.views} views overlapped an update in {self.runs} runs"
+            none = f"none of {self.views} views overlapped an update in {self.counted_runs}"
             raise DriveError("no overlap", f"{none}: there is no verdict on calls at the same time")
 
     def __str__(self):
         verdicts = f"atomic {self.atomic}, only-regular {self.only_regular}, not-regular {self.not_regular}"
-        overlaps = f"{self.overlapping} of {self.views} views overlapped an update, in {self.overlapped} of {self.runs} runs"
+        overlaps = f"{self.overlapping} of {self.views} views overlapped an update, in {self.overlapped} of {self.counted_runs}"
         return f"{verdicts}; {overlaps}"
 
 

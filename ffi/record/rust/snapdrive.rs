@@ -149,6 +149,10 @@ impl Outcome {
         self.atomic + self.caught()
     }
 
+    fn counted_runs(&self) -> String {
+        format!("{} {}", self.runs(), if self.runs() == 1 { "run" } else { "runs" })
+    }
+
     fn add(&mut self, views: Views) {
         self.views += views.ended as u64;
         self.overlapping += views.overlapping as u64;
@@ -157,13 +161,13 @@ impl Outcome {
 
     /// An error if the runs say nothing of the object: all were atomic, and too few views ended, or none of them overlapped an update.
     fn test_looked(&self, options: &Options) -> Result<(), Error> {
-        let (views, runs) = (self.views, self.runs());
+        let (views, runs) = (self.views, self.counted_runs());
         if self.first.is_some() || options.views == 0 {
             Ok(())
         } else if views < options.views {
-            Err(Error::FewViews(format!("{views} views ended in {runs} runs, fewer than {}: there is no verdict", options.views)))
+            Err(Error::FewViews(format!("{views} views ended in {runs}, fewer than {}: there is no verdict", options.views)))
         } else if self.overlapping == 0 {
-            let none = format!("none of {views} views overlapped an update in {runs} runs");
+            let none = format!("none of {views} views overlapped an update in {runs}");
             Err(Error::NoOverlap(format!("{none}: there is no verdict on calls at the same time")))
         } else {
             Ok(())
@@ -174,7 +178,7 @@ impl Outcome {
 impl fmt::Display for Outcome {
     fn fmt(&self, f: &mut fmt::Formatter<'_>) -> fmt::Result {
         write!(f, "atomic {}, only-regular {}, not-regular {}; ", self.atomic, self.only_regular, self.not_regular)?;
-        write!(f, "{} of {} views overlapped an update, in {} of {} runs", self.overlapping, self.views, self.overlapped, self.runs())
+        write!(f, "{} of {} views overlapped an update, in {} of {}", self.overlapping, self.views, self.overlapped, self.counted_runs())
     }
 }
 

@@ -18,7 +18,7 @@ pub record Finds (command : Text) (rows : List Row) (Gives : (Job → Type 0) �
   pub draw : (events : ℕ) (form : Form) → command ≡ codes "draw" → AsksDrawWithin events rows form → Gives (IsDraw events form (files_of rows))
   pub stats : (events : ℕ) (json : Bool) → command ≡ codes "stats" → AsksStatsWithin events json rows → Gives (IsStats events json (files_of rows))
   pub repeated : command ≡ codes "stats" → NamesInputTwice rows → GivesNone
-  pub recording : (events workers rounds : ℕ) (flags : Flags) → command ≡ codes "record" → AsksRecordWithin events rows workers rounds flags → Gives (IsRecord workers rounds flags)
+  pub recording : (events workers rounds seed : ℕ) (flags : Flags) → command ≡ codes "record" → AsksRecordWithin events rows workers rounds seed flags → Gives (IsRecord workers rounds seed flags)
   pub unfollowed : command ≡ codes "check" → LacksFollow rows → GivesNone
   pub unheeded : command ≡ codes "check" → FollowsUnheeding rows → GivesNone
   pub overfull : command ≡ codes "record" → AsksTooManyRounds rows → GivesNone

@@ -13,4 +13,4 @@ workers_of-requires-clause-senders g c =
 
 pub returns-clause-unused : goal.returns-clause-unused
 returns-clause-unused g c =
-    subst (λ n. AreUnused (record { board = c.with_pauses.result; relay = c.in_ok-relay.relay }) n c.in_ok-all.all.items) c.in_ok-relay.ensures.senders.count c.in_ok-all.ensures.unused
+    subst (λ n. AreUnused (record { board = c.with_seeded_pauses.result; relay = c.in_ok-relay.relay }) n c.in_ok-all.all.items) c.in_ok-relay.ensures.senders.count c.in_ok-all.ensures.unused

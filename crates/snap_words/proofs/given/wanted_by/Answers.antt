@@ -46,8 +46,8 @@ pub returns-clause-stats : goal.returns-clause-stats
 returns-clause-stats c = λ events json files whole means. c.readable.ensures (c.in-Err.ensures.stats events json files means)
 
 pub returns-in-Ok-clause-recording : goal.returns-in-Ok-clause-recording
-returns-in-Ok-clause-recording c = λ events workers rounds flags files whole means.
-    subst (IsRecord workers rounds flags) (sym (c.in_ok-whole_job-in-Ok.ensures.same (c.deref-in-Ok.ensures.value ∙ whole))) (c.in-Ok.ensures.recording events workers rounds flags files means)
+returns-in-Ok-clause-recording c = λ events workers rounds seed flags files whole means.
+    subst (IsRecord workers rounds seed flags) (sym (c.in_ok-whole_job-in-Ok.ensures.same (c.deref-in-Ok.ensures.value ∙ whole))) (c.in-Ok.ensures.recording events workers rounds seed flags files means)
 
 pub returns-clause-recording : goal.returns-clause-recording
-returns-clause-recording c = λ events workers rounds flags files whole means. c.readable.ensures (c.in-Err.ensures.recording events workers rounds flags files means)
+returns-clause-recording c = λ events workers rounds seed flags files whole means. c.readable.ensures (c.in-Err.ensures.recording events workers rounds seed flags files means)

@@ -62,10 +62,10 @@ returns-clause-stats c = λ events json files means.
     on_files means.rows files (IsStats events json) c.asked_by.result means.files_are ((c.asked_by.ensures.asked (codes "stats") means.rows (found c _ means.rows_are)).stats events json refl means.asks)
 
 pub returns-in-Err-clause-recording : goal.returns-in-Err-clause-recording
-returns-in-Err-clause-recording c = λ events workers rounds flags files means. memory c means.taken
+returns-in-Err-clause-recording c = λ events workers rounds seed flags files means. memory c means.taken
 
 pub returns-clause-recording : goal.returns-clause-recording
-returns-clause-recording c = λ events workers rounds flags files means. (c.asked_by.ensures.asked (codes "record") means.rows (found c _ means.rows_are)).recording events workers rounds flags refl means.asks
+returns-clause-recording c = λ events workers rounds seed flags files means. (c.asked_by.ensures.asked (codes "record") means.rows (found c _ means.rows_are)).recording events workers rounds seed flags refl means.asks
 
 pub returns-clause-unfollowed : goal.returns-clause-unfollowed
 returns-clause-unfollowed c = λ files means. (c.asked_by.ensures.asked (codes "check") means.rows (found c _ means.rows_are)).unfollowed refl means.asks
