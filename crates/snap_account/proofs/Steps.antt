@@ -133,7 +133,7 @@ middle m = m.middle
 abbrev pub scan : ℕ → List (ℕ × ℕ) → List ℕ → ℕ → List (ℕ × ℕ) → List (ℕ × ℕ) → Scan
 scan b f m t p q = record { begun = b; first = f; middles = m; middle = t; before = p; since = q }
 
--- a call that is answered puts its looks behind those of the calls before it
+-- a call that is answered puts its looks after those of the calls before it
 looks_after : (rs : List Answered) (r : Answered) (v : ViewRecord) → Mem v (view_records_in (rs ++ r ∷ []) ++ []) → Mem v (view_records_in rs) ⊎ Mem v (op_view_records r.begun r.ended r.op)
 looks_after rs r v m = ⊎_elim
     (λ q. ⊎_elim

@@ -126,7 +126,7 @@ look_in (r ∷ rs) v m = ⊎_elim (λ x. inl (one r.op x)) (λ x. inr (inr (look
     one (Scanned t xs) q = ap (λ (z : ViewRecord). z.begun) (mem_one v (view_record r.begun r.ended true xs) q)
     one (Interfered n xs ys) q = ⊎_elim (λ e. ap (λ (z : ViewRecord). z.begun) e) (λ e. ap (λ (z : ViewRecord). z.begun) (mem_one v (view_record r.begun r.ended true ys) e)) q
 
--- the stores numbered behind f up to l are counted
+-- the stores numbered after f up to l are counted
 count_between : (p : Write → ℕ) (k : ℕ) (ws : List Write) (f l : ℕ) → Numbered k ws → k ≤ suc f → l < k + length ws → ((w : Write) → Mem w ws → f < w.number → w.number ≤ l → 1 ≤ p w) → l ≤ f + total p ws
 count_between p k [] f l num low high each = omega arith
 count_between p k (x ∷ ws) f l num low high each = at (dec_le l f) (dec_le k f) (λ g low' each'. count_between p (suc k) ws g l num.1 low' (omega arith) each')

@@ -18,7 +18,7 @@ use Rattle.snap_core.proofs.Begun.{Next, nothing, found, next, ends_it, operatio
 use Rattle.snap_core.proofs.Histories.{begun_of, are_calls}
 use Rattle.snap_board.specs.inside.Placed.{At, IsSpan, IsRegularByPlaces}
 
--- the element behind a front
+-- the element after a front
 pub at_split : (xs : List Event) (x : Event) (ys : List Event) → At (xs ++ x ∷ ys) (length xs) x
 at_split [] x ys = refl
 at_split (z ∷ xs) x ys = at_split xs x ys

@@ -1,4 +1,4 @@
--- Painted texts one behind the other, and what goes out of them.
+-- Painted texts one after the other, and what goes out of them.
 use Rattle.std.proofs.Common.{◌≡◌, ◌≤◌, ◌+◌, ◌-◌, ◌++◌, ◌∷◌, [], ◌∙◌, List, None, Option, Result, Some, Ok, Err, OnErr, OnOk, ap, ap₂, arith, drop, length, length-append, subst, sym, take, ℕ}
 use Rattle.std.specs.Io.KnownBytes.{Appends}
 use Rattle.std.proofs.KnownBytes.{Appends-nil, Appends-trans}
@@ -24,11 +24,11 @@ painted_both xs ys us vs a b =
       all = ap₂ (λ (l m : List ℕ). l ++ m) a.all b.all ∙ sym (flat_map-append shown a.pieces b.pieces);
     }
 
--- the front of a line in a colour, and the rest of the line behind that
+-- the front of a line in a colour, and the rest of the line after that
 pub colored : (color front rest : List ℕ) → IsColor color → IsPainted (front ++ rest) (((color ++ front) ++ plain) ++ rest)
 colored color front rest is = painted_both front rest ((color ++ front) ++ plain) rest (one_piece (record { color = Some color; part = front; is_color = is })) (as_it_is rest)
 
--- what goes out behind what has gone out
+-- what goes out after what has gone out
 
 pub front_more : (a b c : Option (List ℕ)) (xs ys : List ℕ) → Appends a b xs → SendsFront b c ys → SendsFront a c (xs ++ ys)
 front_more a b c xs ys p q = (length xs + q.0, omega (arith, length-append xs ys, q.1), rw (take-append-add xs ys q.0) (Appends-trans a b c xs (take q.0 ys) p q.2))
@@ -54,7 +54,7 @@ pub whatever_error : {T E : Type 0} (P : Type 0) (result : Result T E) → P →
 whatever_error P (Ok v) p = tt
 whatever_error P (Err e) p = p
 
--- one text behind another
+-- one text after another
 
 pub none_sent : (a : Option (List ℕ)) → SendsPainted a a []
 none_sent a = record { out = []; painted = as_it_is []; sent = Appends-nil a }
@@ -74,7 +74,7 @@ cut_behind a b c xs ys p q = record { out = p.out ++ q.out; painted = painted_bo
 pub cut_before : (a b : Option (List ℕ)) (xs rest : List ℕ) → CutsPainted a b xs → CutsPainted a b (xs ++ rest)
 cut_before a b xs rest p = record { out = p.out ++ rest; painted = painted_both xs rest p.out rest p.painted (as_it_is rest); sent = front_longer a b p.out rest p.sent }
 
--- two parts of a text, one behind the other
+-- two parts of a text, one after the other
 pub parts_joined : (text : List ℕ) (i j k : ℕ) → i ≤ j → j ≤ k → take (j - i) (drop i text) ++ take (k - j) (drop j text) ≡ take (k - i) (drop i text)
 parts_joined text i j k first second =
     let here : drop (j - i) (drop i text) ≡ drop j text = drop-drop (j - i) i text ∙ ap (λ n. drop n text) (omega (arith, first)) in
@@ -84,6 +84,6 @@ parts_joined text i j k first second =
 pub front_joined : (text : List ℕ) (i k : ℕ) → i ≤ k → take i text ++ take (k - i) (drop i text) ≡ take k text
 front_joined text i k low = sym (take-add i (k - i) text) ∙ ap (λ n. take n text) (omega (arith, low))
 
--- the rest of a text behind a front that is painted
+-- the rest of a text after a front that is painted
 pub rest_painted : (a b : Option (List ℕ)) (text : List ℕ) (i : ℕ) → (front : SendsPainted a b (take i text)) → IsPainted text (front.out ++ drop i text)
 rest_painted a b text i front = subst (λ (l : List ℕ). IsPainted l (front.out ++ drop i text)) (take-append-drop i text) (painted_both (take i text) (drop i text) front.out (drop i text) front.painted (as_it_is (drop i text)))

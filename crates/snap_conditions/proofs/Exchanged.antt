@@ -13,7 +13,7 @@ use Rattle.snap_core.proofs.Rising.{entry_at}
 use Rattle.snap_theory.proofs.Entries.{listed_first, listed_behind}
 use Rattle.snap_views.specs.Rows.{number_among}
 
--- the first i entries of one list, and behind them those of another
+-- the first i entries of one list, and after them those of another
 abbrev pub exchanged : (old new : List Entry) (i : ℕ) → List Entry
 exchanged old new i = take i new ++ drop i old
 

@@ -133,7 +133,7 @@ none_missed es kept r j none =
     missed_part calls r j
     ∙ ap (part_of (λ k. reported_write (r, j, k))) (filter_none (write_fault calls r j) (listed r) (λ k i. write_by_place calls (are_calls es kept.history) r j k ∙ ap (λ o. begins_behind o (shown_begin k)) none ∙ never (shown_begin k)))
 
--- where no update that the view shows begins behind the end of the update that it misses
+-- where no update that the view shows begins after the end of the update that it misses
 pub none_behind : (es : List Event) → IsBoundedHistory es → (r : Call) (j : ℕ) (latest : Option ℕ) → AreEntries (entries_of r.operation) →
     ((i : ℕ) → i < length (entries_of r.operation) → IsNoLater (begin_of_shown (calls_of es) (entries_of r.operation) i) latest) →
     begins_behind (end_of (update_of (calls_of es) j (suc (shown_number r j)))) latest ≡ false → part_of reported_write (missed_at (calls_of es) r j) ≡ no_part

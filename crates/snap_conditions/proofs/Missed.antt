@@ -133,7 +133,7 @@ missed_some calls r j ended first count begins fault t f l n e =
     ∙ sym (ap (option_map (λ k. reported_write (r, j, k))) (first_filtered (write_fault calls r j) (λ b. nat_lt ended b) (listed r) begins t.size t.test (omega (arith, l, f)))))
     ∙ sym (missed_part calls r j)
 
--- how many of some begins in their order stand behind an end, where the first of them stands
+-- how many of some begins in their order stand after an end, where the first of them stands
 pub counted_behind : (ended : ℕ) (xs : List ℕ) (i : ℕ) → i ≤ length xs → ((k : ℕ) → k < i → get_or xs k 0 ≤ ended) → ((k : ℕ) → i ≤ k → k < length xs → ended < get_or xs k 0) → count_by (λ b. nat_lt ended b) xs + i ≡ length xs
 counted_behind ended [] i w f b = omega (arith, w)
 counted_behind ended (x ∷ xs) zero w f b =

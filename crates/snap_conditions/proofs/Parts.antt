@@ -64,7 +64,7 @@ pub flat_map_short : {X Y : Type 0} (g : X → List Y) (n : ℕ) (xs : List X) �
 flat_map_short g n [] h = omega arith
 flat_map_short g n (x ∷ xs) h = omega (arith, length-append (g x) (flat_map g xs), h x (inl refl), flat_map_short g n xs (λ y i. h y (inr i)))
 
--- a part with no part behind it
+-- a part with no part after it
 pub merged_none : {F : Type 0} (p : PartValue F) → merged_part p no_part ≡ p
 merged_none p = part_is (merged_part p no_part) p (omega arith) (keeps p.first)
   where

@@ -116,7 +116,7 @@ behind_begin None (Some b) = refl
 behind_begin (Some p) None = sym (le-ltb p 0 (omega arith))
 behind_begin (Some p) (Some b) = refl
 
--- an end that no begin stands behind has none behind it that is no later
+-- an end after which no begin stands has none after it that is no later
 pub behind_none : (ended begun latest : Option ℕ) → IsNoLater begun latest → begins_behind ended latest ≡ false → begins_behind ended begun ≡ false
 behind_none ended None latest h f = refl
 behind_none ended (Some begun) None h f = absurd h

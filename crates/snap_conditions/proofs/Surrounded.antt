@@ -100,12 +100,12 @@ below zero a k i = absurd i
 below (suc n) a k (inl e) = omega (arith, e)
 below (suc n) a k (inr i) = omega (arith, below n (a + 1) k i)
 
--- an end that a place is not behind has no earlier place behind it
+-- an end that a place is not after has no earlier place after it
 not_behind : (ended : Option ℕ) (x y : ℕ) → x ≤ y → is_before ended y ≡ false → is_before ended x ≡ false
 not_behind None x y l f = refl
 not_behind (Some p) x y l f = le-ltb p x (omega (arith, l, ltb-false p y f))
 
--- a view that begins before all ends and ends behind all begins
+-- a view that begins before all ends and ends after all begins
 pub none_near : (es : List Event) → IsBoundedHistory es → (r : Call) (updates : ShownAndNext) → IsOfView (calls_of es) r updates → r.begun ≤ 4294967295 → r.begun ≤ updates.earliest → is_before r.ended updates.latest ≡ false →
     part_of (reported_proximity (calls_of es)) (proximity_faults (calls_of es) (r ∷ [])) ≡ no_part
 none_near es kept r updates a fits l f = proximity_alone calls r ∙ ap (part_of (λ k. reported_proximity calls (r, k))) (filter_none (λ k. old_fault calls r k || early_fault calls r k) components not)
@@ -131,7 +131,7 @@ no_later : (o : Option ℕ) (latest : ℕ) → begin_or_0 o ≤ latest → IsNoL
 no_later None latest h = tt
 no_later (Some begun) latest h = h
 
--- where an update that a view misses ends behind all begins
+-- where an update that a view misses ends after all begins
 pub none_missed_at : (es : List Event) → IsBoundedHistory es → (r : Call) (updates : ShownAndNext) (j : ℕ) → IsOfView (calls_of es) r updates → AreEntries (entries_of r.operation) → updates.latest ≤ 4294967295 → updates.latest ≤ end_next (calls_of es) r j →
     part_of reported_write (missed_at (calls_of es) r j) ≡ no_part
 none_missed_at es kept r updates j a shape fits l =

@@ -11,7 +11,7 @@ use Rattle.snap_core.proofs.Pushes.{history_nil, history_push}
 use Rattle.snap_core.proofs.Worked as worked
 use Rattle.snap_core.proofs.Worked.{entry}
 
--- no event meets a refusal behind those before it
+-- no event meets a refusal after those before it
 are_taken : List Event → List Event → Bool
 are_taken before [] = true
 are_taken before (e ∷ es) = is_none (refusal_of event_cap before e) && are_taken (before ++ e ∷ []) es

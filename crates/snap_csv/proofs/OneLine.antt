@@ -12,7 +12,7 @@ use Rattle.snap_csv.specs.OneLine.{AnswersLine, HasFirst}
 use Rattle.snap_rows.specs.Taking.{FailsEvent}
 use Rattle.snap_rows.proofs.ReadFacts.{event_is}
 
--- whether another record is behind one
+-- whether another record is after one
 pub only_if : (more : Bool) (later : List Fields) (Next : Type 0) → (Next → later ≢ []) → MatchBool more Next (later ≡ []) → IsTrue (not more) ↔ (later ≡ [])
 only_if true later Next n m = (λ t. absurd (false≢true t), λ e. absurd (n m e))
 only_if false later Next n m = (λ t. m, λ e. refl)

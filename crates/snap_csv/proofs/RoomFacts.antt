@@ -59,7 +59,7 @@ pub lists_limit : (limit : ℕ) (rows : List Fields) (result : Result (LimitedEv
 lists_limit limit rows (Ok x) says = says.0.1
 lists_limit limit rows (Err e) says = tt
 
--- no device fails behind the text that was taken
+-- no device fails after the text that was taken
 stays : (limit : ℕ) (rows : List Fields) (old new : ℕ) (e : ReadRefusal) → new ≡ old → RefusesRows limit rows e → RefusalCounts old new e
 stays limit rows old new (refusals.Text place f) same says = same
 stays limit rows old new refusals.Device same says = absurd says

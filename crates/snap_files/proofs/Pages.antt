@@ -155,7 +155,7 @@ pub some_checked : (opens : Opens) (options : FileOptions) (names : List (Vec �
 some_checked opens options names count old new told_old told_new f g code within so_far =
     record { count = count; within = within; pages = so_far.pages; each = so_far.each; wrote = whole_front old new (written so_far.pages) so_far.wrote }
 
--- two lists of pairs, one behind the other
+-- two lists of pairs, one after the other
 
 pub zip_append : {A B : Type 0} (R : A → B → Type 0) (xs ys : List A) (us vs : List B) → AllZip R xs us → AllZip R ys vs → AllZip R (xs ++ ys) (us ++ vs)
 zip_append R [] ys [] vs a b = b
@@ -216,7 +216,7 @@ share_joined opens options names size n m us vs next a b =
     let behind : drop size left ≡ drop (m * size) names = drop-drop size (n * size) names ∙ ap (λ k. drop k names) ends in
     subst (λ (ns : List (Vec ℕ)). AreAnswered opens options ns (us ++ vs)) (ap (λ (l : List (Vec ℕ)). take size left ++ l) (sym behind) ∙ take-append-drop size left) (zip_append _ (take size left) (drop (m * size) names) us vs a b)
 
--- a check of some names behind others
+-- a check of some names after others
 
 greatest_both : (us vs : List Page) → greatest_code (us ++ vs) ≡ max (greatest_code vs) (greatest_code us)
 greatest_both [] vs = omega arith

@@ -67,7 +67,7 @@ pub first_other : (kind : ℕ) (files : List Judged) (name : List ℕ) (code : �
 first_other kind files name code None other none = find_past (has_code kind) files (with_code name code ∷ []) none ∙ ap (λ b. cond b (Some (with_code name code)) None) other
 first_other kind files name code (Some place) other is = first_known kind files (with_code name code) place is
 
--- the place of the first of a kind, where one more stands behind
+-- the place of the first of a kind, where one more stands after
 
 pub first_more : (kind : ℕ) (files : List Judged) (name : List ℕ) (code : ℕ) (first : Option ℕ) → (code == kind) ≡ true → IsFirst kind files first → IsFirst kind (files ++ with_code name code ∷ []) (option_or first (Some (length files)))
 first_more kind files name code None same none = first_now kind files name code same none

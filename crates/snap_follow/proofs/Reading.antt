@@ -189,7 +189,7 @@ event_read f g line row x old headed rows event keeps next counts one misses tak
       },
     )
 
--- texts with one more behind them
+-- texts with one more after them
 text_more : (texts : List (List (List ℕ))) (text : List (List ℕ)) (earlier here : List Event) → AllSpell texts earlier → Spells (flat_map rows_of text) here → AllSpell (texts ++ text ∷ []) (earlier ++ here)
 text_more [] text earlier here none spells = (here, [], ap (λ z. z ++ here) none ∙ sym (append-nil here), spells, refl)
 text_more (t ∷ texts) text earlier here (first, later, parts, says, all) spells =

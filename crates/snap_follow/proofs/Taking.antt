@@ -92,7 +92,7 @@ front_has_no_end k bytes found =
 has_no_end : (bytes : List ℕ) → IsFirstByte (is_byte2 10 13) bytes None → HasNoEnd bytes
 has_no_end bytes found = All-from_get_or (λ b. ¬ EndsLine b) bytes 0 (λ i lt. found i (omega arith) lt)
 
--- bytes are those before a place, the one there, and those behind it
+-- bytes are those before a place, the one there, and those after it
 cut_at : (k : ℕ) (bytes : List ℕ) → k < length bytes → bytes ≡ take k bytes ++ get_or bytes k 0 ∷ drop (k + 1) bytes
 cut_at k bytes high = sym (take-append-drop k bytes) ∙ ap (λ rest. take k bytes ++ rest) (rw add-one (drop-cons bytes k 0 high))
 
@@ -142,7 +142,7 @@ rest_stops c d piece front left parts taken found long = record {
   stops = inl long;
 }
 
--- the bytes have ended, behind the end of a line or within one
+-- the bytes have ended, after the end of a line or within one
 pub last_none : (c : Course) → c.rest.items ≡ [] → TakesLast c c
 last_none c none gone least most texts bytes events h = (h.lines, [], record { ended = h.lines; rest = c.rest.items; cut = h.cut; all = inl (none, refl) }, subst (HasJudged c.follow c.answers gone least most texts h.lines) (sym (append-nil events)) h.read)
 

@@ -135,7 +135,7 @@ none_told a least texts answered = record {
   ended = λ front behind t is. absurd (omega (arith, ap length is, length-append front (t ∷ behind)));
 }
 
--- a line was read, and a window ended behind it
+-- a line was read, and a window ended after it
 pub cut_then : (c d : Course) (g : Follow) (line : List ℕ) (window : Window) → ReadsLine c.follow g line →
     ((least most : ℕ) (texts : List (List (List ℕ))) (lines : List (List ℕ)) (events : List Event) (h : HasRead g least most texts lines events) → (n : HasRead d.follow least most texts lines events) × (n.before ≡ h.before ++ h.since) × (n.since ≡ [])) →
     ((least most : ℕ) (texts : List (List (List ℕ))) (lines : List (List ℕ)) (events : List Event) (h : HasRead g least most texts lines events) → IsVerdict window.verdict h.before h.since) →

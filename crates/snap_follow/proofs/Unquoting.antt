@@ -89,7 +89,7 @@ one_row text s fields field ends mark reaches =
     reads : next_record default_config st.StartRecord [] [] text ≡ Some (fields ++ field ∷ [], st.StartRecord, [])
     reads = ap (next_record default_config st.StartRecord [] []) (sym (append-nil text)) ∙ reaches [] ∙ rw ends refl
 
--- behind some bytes and outside of quotes the end of the line ends a record, with quotes and without them
+-- after some bytes and outside of quotes the end of the line ends a record, with quotes and without them
 both_end : (at : At) (q b : State) → IsNotQuoted at → b ≢ st.StartRecord → Stand at q b → (ends_at_end q ≡ true) × (ends_at_end b ≡ true)
 both_end Begin q b out some (same, inl s) = absurd (some s)
 both_end Begin q b out some (same, inr s) = (ap ends_at_end (same ∙ s), ap ends_at_end s)

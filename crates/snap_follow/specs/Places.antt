@@ -12,7 +12,7 @@ record_count lines = length (flat_map rows_of lines)
 abbrev pub event_count : List (List ℕ) → ℕ
 event_count lines = record_count lines - 1
 
--- the place of event n of the recording of these texts, counted from 1: it is record `at` of a text, behind the header of that text
+-- the place of event n of the recording of these texts, counted from 1: it is record `at` of a text, after the header of that text
 pub record IsPlaceOfEvent (texts : List (List (List ℕ))) (n : ℕ) (place : Place) : Type 0 where
   pub before : List (List (List ℕ))
   pub text : List (List ℕ)
@@ -25,7 +25,7 @@ pub record IsPlaceOfEvent (texts : List (List (List ℕ))) (n : ℕ) (place : Pl
   pub text_is : place.text ≡ stop (length before)
   pub record_is : place.record ≡ stop at
 
--- a span of some events, behind others, has the places of the first and the last of them
+-- a span of some events, after others, has the places of the first and the last of them
 pub record IsSpanIn (span : Span) (texts : List (List (List ℕ))) (others count : ℕ) : Type 0 where
   pub first_at : 0 < count → IsPlaceOfEvent texts (others + 1) span.first
   pub last_at : 0 < count → IsPlaceOfEvent texts (others + count) span.last

@@ -51,7 +51,7 @@ plain_rows (r ∷ rs) h =
     let events : events_in (r ∷ rs) ≡ x ∷ events_in rs = rw is refl in
     ap (λ (z : Fields). z ∷ rs) (record_is r x is) ∙ ap (λ (zs : List Fields). spelled x ∷ zs) later ∙ ap (λ (xs : List Event). map spelled xs) (sym events)
 
--- ---- and so have those with stamps, behind the stamp
+-- ---- and so have those with stamps, after the stamp
 
 abbrev stamp_and_event : Stamped → ℕ × Event
 stamp_and_event s = (s.at, s.event)

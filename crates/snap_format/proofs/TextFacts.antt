@@ -158,7 +158,7 @@ row_clean : (limit : ℕ) (ys : List Event) (x : Event) → length ys < limit �
 unfolding row_fault
 row_clean limit ys x lt none h = rw (four_fields x, lt-leb limit (length ys) lt, event_back x h.0 h.1) (none_then limit ys x none)
 
--- an element with what stands before and behind it
+-- an element with what stands before and after it
 pub record Place (xs : List Event) (i : ℕ) : Type 0 where
   pub before : List Event
   pub here : Event

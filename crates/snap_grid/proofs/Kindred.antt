@@ -11,7 +11,7 @@ use Rattle.snap_masks.specs.Masks.{mask_below}
 use Rattle.snap_grid.specs.inside.Clashes.{ClashesWith, pair_count}
 use Rattle.snap_masks.proofs.Bits.{mask_below_same, ones_below}
 
--- whether a row clashes with one that begins behind its end, or with one that does not
+-- whether a row clashes with one that begins after its end, or with one that does not
 abbrev pub tells : List (List ℕ) → Bool → ℕ → ℕ → Bool
 tells columns apart a b = any_passes true columns a b && (apart || any_passes false columns a b)
 

@@ -152,6 +152,6 @@ pub few_counted : (size : ℕ) (ranks nodes : List ℕ) (from rank : ℕ) → Ha
 few_counted size ranks nodes from rank h =
     omega (arith, h.counts rank, count_by-le-length (λ b. nat_lt (number ranks b) rank) (range_with_len from (length ranks - from)), length-range_with_len from (length ranks - from))
 
--- begins before one that is not behind an end are not behind it either
+-- begins before one that is not after an end are not after it either
 pub none_behind : (begins : List ℕ) (from end : ℕ) → Rises begins → from ≤ length begins → (0 < from → number begins (from - 1) ≤ end) → (b : ℕ) → b < from → number begins b ≤ end
 none_behind begins from end rises within last b l = omega (arith, rises b (from - 1) (omega (arith, l)) (omega (arith, l, within)), last (omega (arith, l)))

@@ -44,12 +44,12 @@ indexed_value View = 0
 abbrev indexed_write : ℕ → Call → Write
 indexed_write c x = record { call = c; value = indexed_value x.op; begun = x.begun; ended = x.ended }
 
--- what is put of call c behind the updates of its component
+-- what is put of call c after the updates of its component
 pub record Puts (x : Call) (c : ℕ) (updates new_updates : List (List Write)) : Type 0 where
   pub size : length new_updates ≡ length updates
   pub rows : (k : ℕ) → k < 256 → get_or new_updates k [] ≡ put_where (is_indexed_update x.op k) (indexed_write c x) (get_or updates k [])
 
--- what is put of call r behind the completed views
+-- what is put of call r after the completed views
 pub record Shows (r : SpecCall) (views new_views : List CompletedView) : Type 0 where
   pub numbers : map number_kept new_views ≡ put_where (is_view r) r.number (map number_kept views)
   pub entries : map entries_kept new_views ≡ put_where (is_view r) (entries_shown r) (map entries_kept views)

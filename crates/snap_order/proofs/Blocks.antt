@@ -46,7 +46,7 @@ pub blocks_before : (calls : List Call) (blocks : ℕ) (made : List (Result (Vec
 blocks_before calls blocks made last h = λ i none l.
     subst (IsBlock calls blocks i) (get_or_append_left made (last ∷ []) none i l) (h i none (omega (arith, l, length-append made (last ∷ []))))
 
--- the keys of a block before those behind it
+-- the keys of a block before those after it
 pub block_joined : (calls : List Call) (blocks n m : ℕ) (low high : List (ℕ × ℕ)) → 0 < blocks → m ≡ n + 1 → m ≤ blocks →
     low ≡ keys_between calls (block_start blocks n (length calls)) (block_start blocks (n + 1) (length calls)) → high ≡ keys_between calls (block_start blocks m (length calls)) (length calls) →
     low ++ high ≡ keys_between calls (block_start blocks n (length calls)) (length calls)

@@ -25,7 +25,7 @@ module _ (passes : ℕ → Bool) (xs : List ℕ) (parted : IsPartitionedBy passe
   pub passing_to : (m high : ℕ) → high ≤ m + 1 → m < length xs → true ≡ passes (get_or xs m 0) → AllWithin (λ x. passes x ≡ true) xs 0 high
   passing_to m high o l t k d a b = parted k m d (omega (arith, o, b)) l (ap passes (get_or_default_zero xs m d l) ∙ sym t)
 
-  -- and what stands behind one that fails, fails
+  -- and what stands after one that fails, fails
   pub failing_from : (m low : ℕ) → m ≤ low → m < length xs → false ≡ passes (get_or xs m 0) → AllWithin (λ x. passes x ≡ false) xs low (length xs)
   failing_from m low o l t k d a b = false_from_ne_true _ (λ u. false≢true (t ∙ sym (ap passes (get_or_default_zero xs m d l)) ∙ parted m k d (omega (arith, o, a)) b u))
 
@@ -40,7 +40,7 @@ module _ (passes : ℕ → Bool) (xs : List ℕ) (parted : IsPartitionedBy passe
     in_part : (k d : ℕ) (b : Bool) → low ≤ k → k < low + length ys → passes (get_or ys (k - low) d) ≡ b → passes (get_or xs k d) ≡ b
     in_part k d b l h t = let e : low + (k - low) ≡ k = omega (arith, l) in sym (ap (λ n. passes (get_or xs n d)) e) ∙ sym (ap passes (part.same (k - low) d (omega (arith, l, h)))) ∙ t
 
-    -- the place in a part is one in the whole, where all before the part pass and all behind it fail
+    -- the place in a part is one in the whole, where all before the part pass and all after it fail
     pub point_by_part : (m : ℕ) → m ≤ length ys → AllWithin (λ x. passes x ≡ true) xs 0 low → AllWithin (λ x. passes x ≡ false) xs (low + length ys) (length xs)
         → IsPartitionPoint (λ x. passes x ≡ true) (λ x. passes x ≡ false) ys m → IsPartitionPoint (λ x. passes x ≡ true) (λ x. passes x ≡ false) xs (low + m)
     point_by_part m i front back point = (

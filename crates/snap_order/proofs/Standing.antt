@@ -1,4 +1,4 @@
--- When a call may stand behind others, by its operation and what it answered.
+-- When a call may stand after others, by its operation and what it answered.
 use Rattle.std.proofs.Common.{◌≡◌, ◌↔◌, ℕ, false, List, Option, Some, None, sym, ap, ◌∙◌, subst, inl, inr}
 use Rattle.std.specs.Prelude.{is_some, Contains}
 use Rattle.std.proofs.lemmas.Bool.{false≢true}

@@ -120,7 +120,7 @@ passed calls ns i seen last latest p s l h = record {
         let early : ¬ (place < latest) = λ t. false≢true (sym (f.precedence a (Contains-from_In _ _ j)) ∙ precedes_from (get_or calls n nobody) a (record { place = place; ends = e; before = omega (arith, q) })) in
         omega (arith, early)
 
--- the state behind one more call
+-- the state after one more call
 pub next_state : (calls : List Call) (ns : List ℕ) (i n : ℕ) (seen : List Bool) (last after : List (Option Entry)) (latest later : ℕ) → AreNumbered calls → IsState calls ns i seen last latest → i < length ns → n ≡ get_or ns i 0 →
     n < length calls → MayFollow calls (picked calls (take i ns)) (get_or calls n nobody) → length after ≡ length last →
     ((k : ℕ) → k < component_count → get_or after k None ≡ written_by (get_or calls n nobody).operation k (get_or last k None)) →

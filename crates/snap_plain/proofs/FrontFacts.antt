@@ -41,7 +41,7 @@ behind_blanks zero text rows le blank h = h
 behind_blanks (suc n) [] rows le blank h = absurd (omega arith)
 behind_blanks (suc n) (c ∷ text) rows le blank h = behind_blanks n text rows (omega (arith, le)) (λ k lt. blank (suc k) (omega (arith, lt))) (behind_newline (c ∷ text) rows (omega arith) (blank zero (omega arith)) h)
 
--- a plain text has its records behind a byte order mark
+-- a plain text has its records after a byte order mark
 
 plain_stripped : (text : List ℕ) → All IsPlain text → All IsPlain (strip_bom text)
 unfolding strip_bom

@@ -121,7 +121,7 @@ plain_rest : (f rest : List ℕ) → All IsPlain (f ++ rest) → All IsPlain res
 plain_rest [] rest h = h
 plain_rest (c ∷ f) rest h = plain_rest f rest (All-tail IsPlain c (f ++ rest) h)
 
--- a text and a piece behind it are plain where both are
+-- a text and a piece after it are plain where both are
 pub plain_with : (a b : Bool) (text piece : List ℕ) → (IsTrue a ↔ All IsPlain text) → (IsTrue b ↔ All IsPlain piece) → IsTrue (a && b) ↔ All IsPlain (text ++ piece)
 plain_with true b text piece h k = (λ is. All-append IsPlain text piece (h.0 refl) (k.0 is), λ plain. k.1 (plain_rest text piece plain))
 plain_with false b text piece h k = (λ is. absurd cc, λ plain. h.1 (plain_front text piece plain))
@@ -134,7 +134,7 @@ rest_of_rest rest left text (f, e) (g, h) = (g ++ f, h ∙ ap (λ (q : List ℕ)
 behind_mark : (f : List ℕ) (mark : ℕ) (rest text : List ℕ) → text ≡ f ++ mark ∷ rest → IsRest rest text
 behind_mark f mark rest text e = (f ++ mark ∷ [], e ∙ sym (append_assoc f (mark ∷ []) rest))
 
--- the record goes on behind a comma
+-- the record goes on after a comma
 pub record Goes (fs : Fields) (f rest text : List ℕ) : Type 0 where
   pub plain : All IsPlain rest
   pub behind : IsRest rest text

@@ -71,7 +71,7 @@ run_push r scripts rans x d old new at =
     each_push (λ k y. HasRun r y.worker.desk.desk (get_or scripts y.worker.desk.desk []) y × (y.worker.desk.desk + k + 1 ≡ length scripts)) rans x old
     (subst (λ z. HasRun r z (get_or scripts z []) x) (sym new.desk) new, omega (arith, at, new.desk))
 
--- what holds of the workers that ran, if it holds of those of other threads with one behind them
+-- what holds of the workers that ran, if it holds of those of other threads with one after them
 pub one_behind : {V W : Type 0} (others_of : V → List Ran) (all_of : W → List Ran) (P : List Ran → Type 0) (own : Ran) (others : Result V AllocError) (result : Result W AllocError) → IfOk others (λ v. P (others_of v ++ own ∷ []))
     → MatchResult others (λ v. IfOk result (λ w. all_of w ≡ others_of v ++ own ∷ [])) (λ _. IsErr result) → IfOk result (λ w. P (all_of w))
 one_behind others_of all_of P own (Ok v) result h e = IfOk-weaker result _ _ (λ w is. subst P (sym is) h) e

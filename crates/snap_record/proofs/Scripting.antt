@@ -93,7 +93,7 @@ draws_more a b (s ∷ ss) le e =
     let q = both (has_tries s) (nat_le (step_ticks s) a) p.0 in
     and_from _ _ (and_from _ _ q.0 (le-leb (step_ticks s) b (let l = leb-true (step_ticks s) a q.1 in omega arith))) (draws_more (a - step_ticks s) (b - step_ticks s) ss (omega arith) p.1)
 
--- the step at k has room, and so have those behind it
+-- the step at k has room, and so have those after it
 pub record HasRoom (room : ℕ) (s : Step) (rest : List Step) : Type 0 where
   pub tries : has_tries s ≡ true
   pub ticks : step_ticks s ≤ room

@@ -11,7 +11,7 @@ use Rattle.snap_views.specs.Rows.{number_among}
 use Rattle.snap_core.specs.Entries.{number_in}
 use Rattle.snap_theory.proofs.Entries.{listed_behind, nothing}
 
--- entries that do not list a component, in front of others or behind them, change nothing of what is found of it
+-- entries that do not list a component, before others or after them, change nothing of what is found of it
 
 without_front : (es : List Entry) (k m : ℕ) → ((i : ℕ) → i < m → i < length es → (get_or es i nothing).component ≢ k) → entry_of k (drop m es) ≡ entry_of k es
 without_front es k zero h = refl

@@ -92,7 +92,7 @@ none_behind_zero text left b n rest is digit then = go n then
         let first = ap (λ (t : List ℕ). get_or t 0 0) zero in
         omega (arith, get_or-take 1 (decimal (suc n)) 0 0 (omega arith), first_decimal (suc n) (omega arith) (omega (arith, then.small)))
 
--- no number has a digit behind a leading zero, nor one that makes it too great
+-- no number has a digit after a leading zero, nor one that makes it too great
 pub none_goes_on : (text left : List ℕ) (m b n : ℕ) (rest : List ℕ) → text ≡ decimal m ++ b ∷ left → IsInRange 48 57 b → m < 2 ^ 33 → (m ≡ 0) ⊎ (429496729 < m) → NumberThen n rest text → ⊥
 none_goes_on text left m b n rest is digit small (inl none) then =
     none_behind_zero text left b n rest (is ∙ ap (λ (k : ℕ). decimal k ++ b ∷ left) none) digit then
@@ -127,7 +127,7 @@ number_goes_on f n rest h e = number_none (2 ^ 32) f (λ m lt is.
 
 -- ---- an entry
 
--- the three numbers of an entry, one behind the other
+-- the three numbers of an entry, one after the other
 pub record Numbers (e : Entry) (rest text : List ℕ) : Type 0 where
   pub second : List ℕ
   pub third : List ℕ

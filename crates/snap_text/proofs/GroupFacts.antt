@@ -9,7 +9,7 @@ use Rattle.snap_text.specs.Spelling.{entries_text, entry_text}
 use Rattle.snap_text.proofs.PartFacts.{AreRead}
 use Rattle.snap_text.proofs.ViewFacts.{last_read, one_read}
 
--- the first of some entries, and the others behind it
+-- the first of some entries, and the others after it
 first_then : (e d : Entry) (es : List Entry) (rest left : List ℕ) → EntriesThen (e ∷ d ∷ es) rest left → EntryThen e (32 ∷ (entries_text (d ∷ es) ++ rest)) left
 unfolding entries_text
 first_then e d es rest left h = record {

@@ -23,7 +23,7 @@ use Rattle.snap_text.proofs.PartFacts.{AreRead}
 abbrev pub spaces_in : List ℕ → ℕ
 spaces_in text = count_by (λ b. b == 32) text
 
--- the parts of a text that goes on behind a space
+-- the parts of a text that goes on after a space
 onto_more : (b : ℕ) (ps qs : List (List ℕ)) → 0 < length ps → onto_first b (ps ++ qs) ≡ onto_first b ps ++ qs
 onto_more b [] qs some = absurd (omega arith)
 onto_more b (p ∷ ps) qs some = refl

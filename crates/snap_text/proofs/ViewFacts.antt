@@ -1,4 +1,4 @@
--- The entries of a view, one behind the other.
+-- The entries of a view, one after the other.
 use Rattle.std.proofs.Common.{◌≡◌, ◌==◌, ◌++◌, ℕ, Bool, true, false, List, [], ◌∷◌, map, append-nil, Some, None, refl, sym, ap, ◌∙◌, subst, arith}
 use Rattle.std.proofs.lemmas.Bool.Decides.{nat_tests}
 use Rattle.snap_core.specs.declared.entry.Entry.{Entry}

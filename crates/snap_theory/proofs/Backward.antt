@@ -119,7 +119,7 @@ stands_before calls order f o before after b split cb a ca h = elim (In-append_c
     itself : precedes a a ≡ true → ⊥
     itself t = let p = precedes_to a a t in omega (arith, p.before, f.rises a p.place ca p.ends)
 
--- nothing that stands behind a view or is one precedes an update that it shows
+-- nothing that stands after a view or is one precedes an update that it shows
 pub record Shown (calls before : List Call) (k n : ℕ) : Type 0 where
   pub call : Call
   pub entry : Entry

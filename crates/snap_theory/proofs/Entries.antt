@@ -20,7 +20,7 @@ pub sorted_tail : (e : Entry) (es : List Entry) → AreSorted (e ∷ es) → Are
 sorted_tail e [] s = record { rising = refl }
 sorted_tail e (d ∷ es) s = record { rising = (and_parts (nat_lt e.component d.component) (rises (d ∷ es)) s.rising).1 }
 
--- the components behind the first are above it
+-- the components after the first are above it
 pub above : (e : Entry) (es : List Entry) → AreSorted (e ∷ es) → (d : Entry) → In d es → e.component < d.component
 above e [] s d i = absurd i
 above e (c ∷ es) s d (inl i) = subst (λ (z : Entry). e.component < z.component) i (ltb-true e.component c.component (and_parts (nat_lt e.component c.component) (rises (c ∷ es)) s.rising).0)

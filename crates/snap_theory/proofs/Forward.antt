@@ -80,7 +80,7 @@ ordered_part calls f m a b i j e = false_from_ne_true (precedes b a) wrong
 precedes_number : (calls : List Call) → AreCalls calls → (a b : Call) → Contains calls a → Contains calls b → precedes a b ≡ true → a.number < b.number
 precedes_number calls f a b i j h = let t = precedes_to a b h in f.ordered a b i j (omega (arith, t.before, f.rises a t.place i t.ends))
 
--- no update of a component stands behind one of it with as great a number
+-- no update of a component stands after one of it with as great a number
 none_behind : (calls : List Call) → AreCalls calls → MeetsConditions calls → (c u : Call) (e d : Entry) → IsUpdateOf calls c e → IsUpdateOf calls u d → d.component ≡ e.component → d.number ≤ e.number → Earlier calls c u → ⊥
 none_behind calls f m c u e d x y same le b = elim (cases_order d.number e.number) [
   | inl eq ↦ let one = f.one u c d e y x same eq in not_earlier calls c u b (le_at (λ z. rank calls z) u c one) (le_at (λ z. z.number) u c one)

@@ -18,7 +18,7 @@ use Rattle.snap_theory.proofs.Images.{IsImage, Among, atomic_image, atomic_origi
 use Rattle.snap_core.proofs.Members.{In-map, In-from_map}
 use Rattle.snap_theory.proofs.Renumbered.{call_by, operation_by, lowered, Rises, shown_by, number_by, by_view, by_precedes, update_by}
 
--- what was left, as the calls behind it know it
+-- what was left, as the calls after it know it
 pub record IsBeginning (left : ℕ → Option Entry) (calls : List Call) : Type 0 where
   pub component : (k : ℕ) (l : Entry) → left k ≡ Some l → l.component ≡ k
   pub positive : (k : ℕ) (l : Entry) → left k ≡ Some l → 0 < l.number

@@ -44,7 +44,7 @@ of_other p x xs t = ap (λ b. cond b (x ∷ events_of p xs) (events_of p xs)) t
 of_same : (p : ℕ) (x : Event) (xs : List Event) → (process_of x == p) ≡ true → events_of p (x ∷ xs) ≡ x ∷ events_of p xs
 of_same p x xs t = ap (λ b. cond b (x ∷ events_of p xs) (events_of p xs)) t
 
--- a list behind an open call's begin, if there is one and it is kept
+-- a list after an open call's begin, if there is one and it is kept
 abbrev behind : Bool → Event → List Event → List Event
 behind o b xs = cond o (b ∷ xs) xs
 

@@ -55,7 +55,7 @@ pub record IsImage (f : Call → Call) (calls : List Call) : Type 0 where
   pub precedence : (a b : Call) → precedes (f a) (f b) ≡ precedes a b
   pub apart : (a b : Call) → In a calls → In b calls → f a ≡ f b → a ≡ b
 
--- what a view shows behind a list, before and behind the map
+-- what a view shows after a list, before and after the map
 abbrev pub Shows : (ℕ → Option Entry) → Call → List Call → Type 0
 Shows left r before = (k : ℕ) → shown r k ≡ last_written k (left k) before
 

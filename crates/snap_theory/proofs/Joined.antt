@@ -13,7 +13,7 @@ use Rattle.snap_theory.proofs.Orders.{atomic_sides, atomic_whole}
 use Rattle.snap_theory.proofs.Splits.{back_of, calls_split, calls_from_same, cut}
 use Rattle.snap_theory.proofs.Moved.{moved, calls_from-moved, regular_moved, regular_unmoved, monotone_moved, monotone_unmoved, atomic_moved, atomic_unmoved}
 
--- the calls behind the moment are those of the later events, moved
+-- the calls after the moment are those of the later events, moved
 pub back_moved : (before after : List Event) → back_of before after ≡ map (moved (begins before) (length before)) (calls_of after)
 unfolding calls_of
 back_moved before after =

@@ -90,6 +90,6 @@ same_last calls f k xs ys p q there to from = go (last_of k None xs p) (last_of 
         let e = same_entry w.call.operation w.entry v.entry w.writes (ap (λ (z : Call). z.operation) one ∙ v.writes) in
         w.is ∙ ap Some e ∙ sym v.is
 
--- a list behind another begins with what that left
+-- a list after another begins with what that left
 pub last_behind : (k : ℕ) (o p : Option Entry) (xs ys : List Call) → last_written k o xs ≡ p → last_written k o (xs ++ ys) ≡ last_written k p ys
 last_behind k o p xs ys e = last_written-append k o xs ys ∙ ap (λ z. last_written k z ys) e

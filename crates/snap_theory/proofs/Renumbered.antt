@@ -77,7 +77,7 @@ abbrev pub lowered : (ℕ → Option Entry) → Option Entry → Option Entry
 lowered left None = None
 lowered left (Some e) = cond (is_later left e) (Some (renumbered_entry left e)) None
 
--- entries behind one that rises are of greater components
+-- entries after one that rises are of greater components
 above : (d e : Entry) (es : List Entry) → rises (e ∷ es) ≡ true → In d es → e.component < d.component
 above d e [] h i = absurd i
 above d e (x ∷ es) h (inl s) = let p = and_parts (nat_lt e.component x.component) (rises (x ∷ es)) h in omega (arith, ltb-true e.component x.component p.0, ap (λ (z : Entry). z.component) s)

@@ -95,7 +95,7 @@ ends_by n place es c end i h = go (next (process_of b.event) (suc c.begun) b.aft
         let e : suc c.begun + length mid ≡ end = cc in
         omega (arith, e, b.at_place, ap length b.split ∙ length-append b.before (b.event ∷ b.after), ap length s ∙ length-append mid (x ∷ rest))
 
--- the calls behind a moment, as the whole numbers them
+-- the calls after a moment, as the whole numbers them
 abbrev pub back_of : List Event → List Event → List Call
 back_of before after = calls_from (0 + begins before) (0 + length before) after
 

@@ -24,11 +24,11 @@ use Rattle.snap_theory.specs.Windows.{IsQuiet, left_by, nothing, IsRegularFrom, 
 abbrev an_update : List Event
 an_update = BeginUpdate 0 (entry 0 1 7) ∷ EndUpdate 0 ∷ []
 
--- behind it a view shows it
+-- after it a view shows it
 abbrev a_view_of_it : List Event
 a_view_of_it = BeginView 1 ∷ EndView 1 (entry 0 1 7 ∷ []) ∷ []
 
--- behind it a view shows nothing
+-- after it a view shows nothing
 abbrev a_stale_view : List Event
 a_stale_view = BeginView 1 ∷ EndView 1 [] ∷ []
 
@@ -70,7 +70,7 @@ shows_it [] after r split v k = let same : the_view ≡ r = cc in ap (λ z. show
 shows_it (x ∷ []) after r split v k = absurd (cc)
 shows_it (x ∷ y ∷ before) after r split v k = absurd (cc)
 
--- cut at a quiet moment: the view behind it is atomic from what was left
+-- cut at a quiet moment: the view after it is atomic from what was left
 a_view_may_show_what_was_left : IsAtomicFrom (left_by an_update) (calls_of a_view_of_it)
 unfolding calls_of
 a_view_may_show_what_was_left = (

@@ -37,7 +37,7 @@ finished_to p xs b is t = any_past p xs (let e = ap one_if t in omega (arith, is
 pub finished_from : (p : ℕ) (xs : List ℕ) (b : Bool) → past p xs ≡ one_if b → Any (λ n. p ≤ n) xs → b ≡ true
 finished_from p xs b is any = true_from_one b (let h = past_any p xs any in omega (arith, is, h))
 
--- a piece that is drawn stands behind the others
+-- a piece that is drawn stands after the others
 pub pieces_more : (p n : ℕ) (xs : List ℕ) → n < p → filter (λ m. nat_lt m p) (xs ++ n ∷ []) ≡ filter (λ m. nat_lt m p) xs ++ n ∷ []
 pieces_more p n [] low = let e : nat_lt n p ≡ true = grind (arith, nat_tests) in ap (λ b. cond b (n ∷ []) []) e
 pieces_more p n (x ∷ xs) low = ap (λ ys. cond (nat_lt x p) (x ∷ ys) ys) (pieces_more p n xs low) ∙ split (nat_lt x p)

@@ -1,4 +1,4 @@
--- What holds of some jobs, and of one more behind them.
+-- What holds of some jobs, and of one more after them.
 use Rattle.std.proofs.Common.{◌≡◌, ◌<◌, ◌+◌, ◌∙◌, ℕ, List, [], ◌∷◌, ◌++◌, length, get_or, length-append, refl, sym, ap, subst, arith, ⊎_elim}
 use denote.Param.Members.{Shared}
 use Rattle.std.proofs.lemmas.List.{get_or_append_left, get_or_push}

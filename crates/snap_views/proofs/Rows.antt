@@ -19,7 +19,7 @@ in_front (e ∷ es) zero x d s l h = absurd h
 in_front (e ∷ es) (suc i) x d s l (inl same) = subst (λ (z : Entry). z.component < (get_or es i x).component) same (above e es s (get_or es i x) (In-get_or es i x (omega arith)))
 in_front (e ∷ es) (suc i) x d s l (inr h) = in_front es i x d (sorted_tail e es s) (omega arith) h
 
--- one more entry behind those looked at
+-- one more entry after those looked at
 pub among_more : (es : List Entry) (i : ℕ) (x : Entry) (k : ℕ) → AreSorted es → i < length es →
     number_among (take (i + 1) es) k ≡ cond ((get_or es i x).component == k) (get_or es i x).number (number_among (take i es) k)
 among_more es i x k s l =

@@ -143,7 +143,7 @@ atomic_whole judge before since v w h is both =
       λ r. let s = law.0 r in both.1 (h.atomic.1 s.0, is.1 s.1),
     )
 
--- the judge behind a cut
+-- the judge after a cut
 pub cut_taken : (judge : WindowJudge) (before since : List Event) (window : LimitedEvents) (regular atomic : Bool) → HasTaken judge before since → IsQuiet (before ++ since) → window.events ≡ [] → window.limit ≡ judge.most.events → (IsTrue regular ↔ IsRegular (calls_of (before ++ since))) → (IsTrue atomic ↔ IsAtomic (calls_of (before ++ since))) →
     HasTaken (record { left = judge.last; last = judge.last; window = window; shows = true; regular = regular; atomic = atomic; most = judge.most }) (before ++ since) []
 cut_taken judge before since window regular atomic h quiet empty same r a = record {

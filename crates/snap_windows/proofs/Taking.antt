@@ -1,4 +1,4 @@
--- A history that goes on behind a quiet moment, by one event.
+-- A history that goes on after a quiet moment, by one event.
 use Rattle.std.proofs.Common.{◌≡◌, ◌⊎◌, ℕ, suc, ◌-◌, ◌<◌, Bool, true, false, List, [], ◌∷◌, ◌++◌, Option, refl, sym, ◌∙◌, inl, inr, subst, arith}
 use Rattle.std.specs.List.{Contains, count_by}
 use Rattle.std.proofs.lemmas.Bool.{eqb-true, eq-eqb, not-false, false≢true, false_from_ne_true, not_from_false, and_from}

@@ -16,7 +16,7 @@ program_is_simple = refl
 abbrev behind : Option (Text × List Row) → Option (List Row)
 behind named = option_map (λ p. p.1) named
 
--- the rows that are found behind a command are those that it is named with
+-- the rows that are found after a command are those that it is named with
 pub rows_found : (found rows : List Row) (command : Text) (named : Option (Text × List Row)) → Some found ≡ behind named → named ≡ Some (command, rows) → found ≡ rows
 rows_found found rows command named is names =
     let same : Some found ≡ Some rows = is ∙ ap behind names in

@@ -5,7 +5,7 @@ use Rattle.std.proofs.Math.Seq.{get_or-append_seam}
 use Rattle.snap_masks.specs.Numbers.{IsOrderedAs}
 use Rattle.snap_masks.proofs.column.by_ranks.Goals as goal
 
--- one more key, behind those that are there
+-- one more key, after those that are there
 more_keys : (all keys : List (List ℕ)) (m : ℕ) (key : List ℕ) → length keys + (m + 1) ≡ length all → IsOrderedAs (get_or all m []) key →
     ((j t : ℕ) → t < length keys → j + t + 1 ≡ length all → IsOrderedAs (get_or all j []) (get_or keys t [])) →
     (j t : ℕ) → t < length (keys ++ key ∷ []) → j + t + 1 ≡ length all → IsOrderedAs (get_or all j []) (get_or (keys ++ key ∷ []) t [])

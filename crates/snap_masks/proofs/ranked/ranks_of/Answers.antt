@@ -4,7 +4,7 @@ use Rattle.std.proofs.lemmas.List.{get_or_append_left, get_or_push, length-appen
 use Rattle.snap_masks.specs.Ranks.{IsRank}
 use Rattle.snap_masks.proofs.ranked.ranks_of.Goals as goal
 
--- the ranks of the numbers up to one, where that of the last was put behind the others
+-- the ranks of the numbers up to one, where that of the last was put after the others
 ranks_more : (numbers distinct ranks : List ℕ) (i r : ℕ) → length ranks ≡ i → ((a : ℕ) → a < i → IsRank distinct (get_or numbers a 0) (get_or ranks a 0)) → IsRank distinct (get_or numbers i 0) r →
     (a : ℕ) → a < i + 1 → IsRank distinct (get_or numbers a 0) (get_or (ranks ++ r ∷ []) a 0)
 ranks_more numbers distinct ranks i r size below here a l = elim (cases_eq a i) [

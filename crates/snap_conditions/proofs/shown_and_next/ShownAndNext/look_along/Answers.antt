@@ -89,7 +89,7 @@ loop-begin-preserved c =
       unchanged = c.loop-begin.invariant.unchanged;
     }
 
--- behind the last entry all are exchanged
+-- after the last entry all are exchanged
 exchanged_all : (old new : List Entry) (i : ℕ) → length old ≡ length new → length new ≤ i → exchanged old new i ≡ new
 exchanged_all old new i long l = ap (λ es. es ++ drop i old) (take_all i new l) ∙ ap (λ es. new ++ es) (drop_all i old (omega arith)) ∙ append-nil new
 

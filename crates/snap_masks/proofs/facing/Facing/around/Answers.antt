@@ -9,7 +9,7 @@ use Rattle.snap_masks.specs.inside.Tables.{AreUnder}
 use Rattle.snap_masks.proofs.Bits.{mask_none, mask_same}
 use Rattle.snap_masks.proofs.facing.Facing.around.Goals as goal
 
--- the first two masks of a table have no number and the last two have all, so they stand for each x before and behind it
+-- the first two masks of a table have no number and the last two have all, so they stand for each x before and after it
 module _ (numbers : List ℕ) (bounds : Bounds) (under : List ℕ) (x place : ℕ) (tables : AreUnder numbers bounds under) (some : 0 < length under) (e : place ≡ min (x + 1 - bounds.least) (length under - 2)) where
   below_at : get_or under place 0 ≡ mask_by (λ n. nat_lt n x) numbers
   below_at = elim (cases_eq place 0) [

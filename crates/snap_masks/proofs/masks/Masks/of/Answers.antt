@@ -7,7 +7,7 @@ use Rattle.snap_masks.proofs.masks.Masks.of.Goals as goal
 use Rattle.snap_masks.proofs.masks.Masks.of.Goals.{then-spread-limit+in_ok-under, else-spread-limit+in_ok-of}
 use borrow.Rule.Slice.PartMut.{post_of}
 
--- a table that was filled behind its first mask
+-- a table that was filled after its first mask
 behind_first : (d t p : List ℕ) → 0 < length d → length p ≡ 0 → take 1 d ++ (t ++ p) ≡ get_or d 0 0 ∷ t
 behind_first [] t p some none = absurd (omega (arith, some))
 behind_first (x ∷ d) t p some none = ap (λ z. x ∷ (t ++ z)) (nil_from_length p none) ∙ ap (λ z. x ∷ z) (append-nil t)
