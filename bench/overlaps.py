@@ -37,7 +37,7 @@ class Call:
         self.is_missed, self.is_shown = False, False
 
     def has_inside(self, call):
-        """A call that has ended began behind this one, which has not."""
+        """A call that has ended began after this one, which has not."""
         self.has_call = True
         for k, n in self.entry.items():
             if call.is_view:

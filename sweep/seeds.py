@@ -3,7 +3,7 @@
 
 usage: seeds.py [PROGRAM]; it is built/snapjudge by default
 
-Of a store the seed and the stamp of its begin draw one of eight places. Two of them are pauses: before its write, and behind it. While
+Of a store the seed and the stamp of its begin draw one of eight places. Two of them are pauses: before its write, and after it. While
 a store pauses, calls of other workers begin. So more of the stores that the seed draws have a begin inside than of the others. For a
 seed that was not given both shares are the same, but for chance. Of both the test knows the standard deviation, and asks for more than
 five of them. It takes up to ten runs of a seed together, since on a busy machine few calls overlap.

@@ -20,13 +20,13 @@ use std::alloc::Global;
 /// The word of a component is its number times this, plus its value.
 const NUMBER_UNIT: u64 = 4_294_967_296;
 
-// One of this many stores has a pause before its write, and another one has a pause behind it, if the board has pauses.
+// One of this many stores has a pause before its write, and another one has a pause after it, if the board has pauses.
 const STORES_A_PAUSE: u8 = 8;
 
-// Which of them have a pause before the write, and which behind it.
+// Which of them have a pause before the write, and which after it.
 const BEFORE_WRITE: u8 = 0;
 
-const BEHIND_WRITE: u8 = 1;
+const AFTER_WRITE: u8 = 1;
 
 // Lists the components whose words have a number.
 fn list_words(words: &Vec<u64>, entries: &mut Vec<Entry>)
@@ -99,7 +99,7 @@ impl Board {
         let word = u64::from(number) * NUMBER_UNIT + u64::from(value);
         self.pause_at(BEFORE_WRITE, STORES_A_PAUSE, begun);
         shared.store::<WriteWord>(&mut desk.seat, usize::from(desk.desk) + 1, word);
-        self.pause_at(BEHIND_WRITE, STORES_A_PAUSE, begun);
+        self.pause_at(AFTER_WRITE, STORES_A_PAUSE, begun);
         let ended = shared.fetch_add::<EndCall>(&mut desk.seat, 0, 1);
         desk.kept = DeskState {
             ticks: desk.kept.ticks + 2,
