@@ -6,7 +6,12 @@ _snapjudge() {
     --color) mapfile -t COMPREPLY < <(compgen -W 'auto always never' -- "$word"); return ;;
     --files-from) mapfile -t COMPREPLY < <(compgen -f -- "$word"); return ;;
     -r | --recursive) mapfile -t COMPREPLY < <(compgen -d -- "$word"); return ;;
-    --format) mapfile -t COMPREPLY < <(compgen -W 'plain json' -- "$word"); return ;;
+    --format)
+      words='plain json junit'
+      [[ ${COMP_WORDS[1]} != stats ]] || words='plain json'
+      mapfile -t COMPREPLY < <(compgen -W "$words" -- "$word")
+      return
+      ;;
   esac
   case ${COMP_WORDS[1]} in
     check | shrink | explain | draw | stats)

@@ -13,7 +13,7 @@ complete -c snapjudge -n '__fish_seen_subcommand_from check' -s 0 -l null -d 'Na
 complete -c snapjudge -n '__fish_seen_subcommand_from check' -x -s r -l recursive -a '(__fish_complete_directories)' -d 'Folder of more files'
 complete -c snapjudge -n '__fish_seen_subcommand_from check' -s q -l quiet -d 'Write the verdicts alone'
 complete -c snapjudge -n '__fish_seen_subcommand_from check' -x -l views -d 'Views that there must be, 0 to 32768'
-complete -c snapjudge -n '__fish_seen_subcommand_from check' -x -l format -a 'plain json' -d 'Form of the answers'
+complete -c snapjudge -n '__fish_seen_subcommand_from check' -x -l format -a 'plain json junit' -d 'Form of the answers'
 complete -c snapjudge -n '__fish_seen_subcommand_from check' -l summary -d 'Write how many there are of each verdict'
 complete -c snapjudge -n '__fish_seen_subcommand_from check' -l follow -d 'Judge one recording while it grows'
 complete -c snapjudge -n '__fish_seen_subcommand_from check' -x -l window -d 'With --follow: events from which on a window ends'

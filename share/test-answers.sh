@@ -191,6 +191,7 @@ expect "the reason" 0 "" grep -qF "[possible values: auto, always, never]" help
 
 # Objects: those of the examples hold what their reports and explanations say.
 ! has python3 "the objects of the examples" || expect "the objects of the examples" 0 "" python3 "$top/share/compare-json.py" ./second "$examples"/*.csv
+! has python3 "the documents of the examples" || expect "the documents of the examples" 0 "" python3 "$top/share/compare-junit.py" ./second "$examples"/*.csv
 expect "the object of a file that is not there" 4 '{"name":"none.csv","status":4,"trouble":"no such file"}
 ' ./second check --format json none.csv
 expect_said "its name and the reason" "snapjudge: none.csv: no such file"
@@ -200,6 +201,22 @@ expect "an object, and a full disk" 4 "" sh -c "./second check --format json old
 expect "an object of the verdicts alone" 5 "" ./second check --format json --quiet old.csv
 expect_said "the reason" "error: the argument '--quiet' cannot be used with '--format json'"
 expect "another format" 5 "" ./second check --format xml old.csv
+cp err help
+expect "the reason" 0 "" grep -qF "[possible values: plain, json, junit]" help
+expect "the document of standard input" 3 '<?xml version="1.0" encoding="UTF-8"?>
+<testsuite name="snapjudge" tests="1" failures="0" errors="1">
+<testcase classname="snapjudge" time="0" name="-">
+<error message="refused record 1: header">refused record 1: header
+the first record is event,process,op,data, or at,event,process,op,data where records have stamps
+  record 1 has the fields &quot;x&quot;
+</error>
+</testcase>
+</testsuite>
+' sh -c 'echo x | ./second check --format junit'
+expect "a document, and a full disk" 4 "" sh -c "./second check --format junit old.csv >/dev/full"
+expect "a document of the verdicts alone" 5 "" ./second check --format junit --quiet old.csv
+expect_said "the reason" "error: the argument '--quiet' cannot be used with '--format junit'"
+expect "a document of what has been shown" 5 "" ./second stats --format junit old.csv
 cp err help
 expect "the reason" 0 "" grep -qF "[possible values: plain, json]" help
 if has jq "objects by jq"; then

@@ -24,7 +24,7 @@ for shell in bash zsh fish; do
   completes "snapjudge sh" shrink
   completes "snapjudge --v" --version
   completes "snapjudge check --" "--color --events --files-from --follow --format --help --idle --no-progress --null --pieces --quiet --recursive --summary --views --window --workers"
-  completes "snapjudge check --format " "json plain"
+  completes "snapjudge check --format " "json junit plain"
   completes "snapjudge check --color " "always auto never"
   completes "snapjudge check --files-from t" two.csv
   completes "snapjudge check --quiet --pi" --pieces

@@ -204,6 +204,17 @@ def object_of(name, text, report):
     return Case(f"check --format json {name}", ["check", "--format", "json"], text, lambda run: run == whole and found["status"] == whole[0], run.stdout, lambda run: is_out_of_memory(run) or run in refused)
 
 
+def document_of(name, text, report):
+    """The document of a history, as the program writes it if nothing fails. It has the status of its report. The case of a run that
+    is refused memory says so, or is missing."""
+    run = subprocess.run([PROGRAM, "check", "--format", "junit"], input=text, capture_output=True, timeout=LIMIT)
+    whole = status_of(report), run.stdout, b""
+    front = b'<?xml version="1.0" encoding="UTF-8"?>\n<testsuite name="snapjudge" tests="1" failures="0" errors="1">\n'
+    lost = b'<testcase classname="snapjudge" time="0" name="-">\n<error message="out of memory">out of memory</error>\n</testcase>\n'
+    refused = [(4, front + case + b"</testsuite>\n", b"snapjudge: -: out of memory\n") for case in (lost, b"")]
+    return Case(f"check --format junit {name}", ["check", "--format", "junit"], text, lambda run: run == whole, run.stdout, lambda run: is_out_of_memory(run) or run in refused)
+
+
 def files_of(folder, given):
     """Runs over several files, by their names, by a list and below a folder."""
     files = []
@@ -557,7 +568,7 @@ def main(folder):
     pictures = [picture(words, *each) for words in (["draw", "--text"], ["explain", "--draw"], ["shrink", "--draw"]) for each in chosen]
     colors = [colored(*each) for each in chosen]
     in_pieces = check(*updates_alone(21000), 2)
-    checks += shared + [in_pieces] + [object_of(*each) for each in chosen] + several_files + pictures + colors
+    checks += shared + [in_pieces] + [made(*each) for made in (object_of, document_of) for each in chosen] + several_files + pictures + colors
     worked += several_files[:2] + colors
     jobless = [usage(), usage("judge"), usage("check", "--pieces", "0"), usage("record", "--help"), usage("shrink", "--help"), usage("explain", "--help"), usage("draw", "--help")]
     for case in checks + recorded + jobless:

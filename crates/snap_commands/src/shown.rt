@@ -1,6 +1,6 @@
 //! Whether the answers of a check have colours, and whether a line shows the progress.
 use crate::progress::Progress;
-use snap_words::{Color, Options};
+use snap_words::{Color, Format, Options};
 use std::env;
 use std::env::VarError;
 use std::io::IsTerminal;
@@ -14,10 +14,10 @@ fn has_no_color(host: &HostRuntime) -> bool {
     }
 }
 
-/// Whether the verdicts of reports have colours. An object has none.
+/// Whether the verdicts of reports have colours. Other formats have none.
 pub fn in_colors(host: &HostRuntime, asked: Options) -> bool {
     match asked.color {
-        _ if asked.json => false,
+        _ if asked.format != Format::Plain => false,
         Color::Auto => host.stdout().is_terminal() && !has_no_color(host),
         Color::Always => true,
         Color::Never => false,

@@ -2,3 +2,4 @@ pub mod Pieces
 pub mod Explanations
 pub mod MistakeFacts
 pub mod RecordFacts
+mod XmlFacts

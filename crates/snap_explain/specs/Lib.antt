@@ -4,4 +4,6 @@ pub mod Mistakes
 pub mod Faults
 pub mod Explanations
 pub mod Refusals
+pub mod TestCases
+pub mod Xml
 pub mod inside

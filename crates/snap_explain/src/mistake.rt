@@ -32,8 +32,8 @@ pub(crate) enum Mistake {
     Fall { entry: usize },
 }
 
-// A text up to its first mark, and what is after that mark.
-fn first_part(text: &[u8], mark: u8) -> (&[u8], Option<&[u8]>)
+/// A text up to its first mark, and what is after that mark.
+pub(crate) fn first_part(text: &[u8], mark: u8) -> (&[u8], Option<&[u8]>)
     ensures parts { parts mark text.now ≡ result.0.now ∷ parts_after mark result.1 }
     ensures shorter { IfSome result.1 (λ rest. length rest.now < length text.now) }
 {

@@ -1,4 +1,5 @@
 mod Pages
+mod Suites
 pub mod Summing
 mod Troubles
 pub mod Written

@@ -42,7 +42,7 @@ told_more a b c f g h xs ys (inr (inr p)) (inl q) = let e = q.1 in inr (inr (ome
 told_more a b c f g h xs ys (inr (inr p)) (inr (inl q)) = inr (inr (omega (arith, p, q)))
 told_more a b c f g h xs ys (inr (inr p)) (inr (inr q)) = inr (inr q)
 
-front_more : (a b c : Option (List ℕ)) (xs ys : List ℕ) → Appends a b xs → SendsFront b c ys → SendsFront a c (xs ++ ys)
+pub front_more : (a b c : Option (List ℕ)) (xs ys : List ℕ) → Appends a b xs → SendsFront b c ys → SendsFront a c (xs ++ ys)
 front_more a b c xs ys p q = (length xs + q.0, omega (arith, length-append xs ys, q.1), rw (take-append-add xs ys q.0) (Appends-trans a b c xs (take q.0 ys) p q.2))
 
 -- all that was sent is a front of itself
@@ -87,7 +87,7 @@ written_apart names pages place same low =
     sym (paged_append (take place names) (drop place names) (take place pages) (drop place pages) (fronts_fit names pages place same low)) ∙ ap₂ paged (take-append-drop place names) (take-append-drop place pages) in
     sym (flat_map-append (λ (p : Page). p.out) (paged (take place names) (take place pages)) (paged (drop place names) (drop place pages))) ∙ ap written whole
 
-front_longer : (a b : Option (List ℕ)) (xs ys : List ℕ) → SendsFront a b xs → SendsFront a b (xs ++ ys)
+pub front_longer : (a b : Option (List ℕ)) (xs ys : List ℕ) → SendsFront a b xs → SendsFront a b (xs ++ ys)
 front_longer a b xs ys p = (p.0, omega (arith, length-append xs ys, p.1), subst (λ (l : List ℕ). Appends a b l) (sym (take-append-le p.0 xs ys p.1)) p.2)
 
 front_of_all : (names : List (Vec ℕ)) (pages : List (Answer × Vec ℕ)) (place : ℕ) (old new : Option (List ℕ)) → length pages ≡ length names → place ≤ length names →

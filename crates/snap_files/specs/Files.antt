@@ -9,15 +9,18 @@ use Rattle.snap_check.specs.declared.options.CheckOptions.{CheckOptions}
 use Rattle.snap_check.specs.Options.{IsReportWith}
 use Rattle.snap_verdict.specs.declared.status.Status.{Status}
 use Rattle.snap_verdict.specs.Statuses.{code_of}
+use Rattle.snap_explain.specs.TestCases.{ended_case}
+use Rattle.snap_explain.specs.declared.test_case.Ending.TheVariants.{Error}
 use Rattle.snap_json.specs.Objects.{trouble_json}
 use Rattle.snap_json.specs.Values.{IsLineOf}
 use Rattle.snap_runs.specs.Stats.{IsCounted}
 use Rattle.snap_runs.specs.Telling.{IsTold}
+use Rattle.snap_runs.specs.TestCases.{IsTestCase}
 use Rattle.snap_names.specs.Said.{named_lines, trouble_line_text, trouble_text}
 use Rattle.snap_names.specs.Shown.{shown}
 use Rattle.snap_files.specs.declared.format.FileOptions.{FileOptions}
 use Rattle.snap_files.specs.declared.format.Format.{Format}
-use Rattle.snap_files.specs.declared.format.Format.TheVariants.{Plain, Json, Counts, CountsObject}
+use Rattle.snap_files.specs.declared.format.Format.TheVariants.{Plain, Json, Counts, CountsObject, Junit}
 use Rattle.snap_names.specs.declared.opener.Trouble.{Trouble}
 use Rattle.snap_names.specs.declared.opener.Trouble.TheVariants.{Memory}
 
@@ -60,12 +63,13 @@ IsCounts name limit text None out = ⊥
 abbrev pub IsNamedCounts : ℕ → List ℕ → List ℕ → Option Status → List ℕ → Type 0
 IsNamedCounts limit name text status out = IsNamed (IsCounts None limit text status) name out
 
--- what is answered and written for an opened text: its report or its counts, as named lines or as an object alone
+-- what is answered and written for an opened text: its report or its counts, as named lines or as an object alone, or its test case
 abbrev pub IsTextPage : Format → CheckOptions → List ℕ → List ℕ → Option Status → List ℕ → Type 0
 IsTextPage Plain options name text status out = IsNamedReport options name text status out
 IsTextPage Json options name text status out = IsObject options (object_name name) text status out
 IsTextPage Counts options name text status out = IsNamedCounts options.limit.events name text status out
 IsTextPage CountsObject options name text status out = IsCounts (Some (object_name name)) options.limit.events text status out
+IsTextPage Junit options name text status out = IsTestCase options.limit.events name options.views text status out
 
 -- the exit status of a name
 abbrev pub answer_code : Answer → ℕ
@@ -82,12 +86,21 @@ abbrev pub IsTroubleObject : List ℕ → Trouble → Trouble → List ℕ → T
 IsTroubleObject name met trouble out =
     ((trouble ≡ met) × IsLineOf (trouble_json (object_name name) (answer_code (Err met)) (trouble_text met)) out) ⊎ IsNoPage Memory trouble out
 
--- for a name that met a trouble nothing is written, or its object
+-- the test case of a name that met a trouble: an error with the reason
+abbrev pub trouble_case : List ℕ → Trouble → List ℕ
+trouble_case name met = ended_case Error name (trouble_text met)
+
+-- Its test case is written. If memory does not suffice for that, memory is the trouble, and nothing is written.
+abbrev pub IsTroubleCase : List ℕ → Trouble → Trouble → List ℕ → Type 0
+IsTroubleCase name met trouble out = ((trouble ≡ met) × (out ≡ trouble_case name met)) ⊎ IsNoPage Memory trouble out
+
+-- for a name that met a trouble nothing is written, or its object, or its test case
 abbrev pub IsTroublePage : Format → List ℕ → Trouble → Trouble → List ℕ → Type 0
 IsTroublePage Plain name met trouble out = IsNoPage met trouble out
 IsTroublePage Json name met trouble out = IsTroubleObject name met trouble out
 IsTroublePage Counts name met trouble out = IsNoPage met trouble out
 IsTroublePage CountsObject name met trouble out = IsTroubleObject name met trouble out
+IsTroublePage Junit name met trouble out = IsTroubleCase name met trouble out
 
 -- what is answered and written for a name
 abbrev pub IsPage : Opens → FileOptions → List ℕ → Answer → List ℕ → Type 0

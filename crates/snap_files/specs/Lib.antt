@@ -1,3 +1,4 @@
 pub mod Files
+pub mod Suites
 pub mod Sums
 pub mod inside

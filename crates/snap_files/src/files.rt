@@ -17,8 +17,8 @@ use std::alloc::Global;
 use std::io::Write;
 use std::thread::Threads;
 
-// Writes what there is for the names of a round, and says why some have no status. Answers their greatest exit status.
-fn write_round<W: Write, E: Write>(
+/// Writes what there is for the names of a round, and says why some have no status. Answers their greatest exit status.
+pub(crate) fn write_round<W: Write, E: Write>(
     alloc: Global,
     names: &[Vec<u8>],
     pages: &[(Answer, Vec<u8>)],

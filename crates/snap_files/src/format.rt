@@ -16,6 +16,8 @@ pub enum Format {
     Counts,
     /// What it has shown, as a JSON object on a line, which has the name.
     CountsObject,
+    /// Its test case of a document of JUnit, which has the name.
+    Junit,
 }
 
 /// What is asked of several texts.

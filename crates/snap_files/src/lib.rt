@@ -1,4 +1,4 @@
-//! The answers for several named texts: each line of a report has the name before it, or a JSON object names its text.
+//! The answers for several named texts: each line of a report has the name before it, or a JSON object or a test case names its text.
 #![tactic(auto)]
 
 mod counts;
@@ -6,9 +6,12 @@ mod files;
 mod format;
 mod page;
 mod round;
+mod suite;
 mod sum;
 mod sums;
+mod test_case;
 
 pub use files::check_all;
 pub use format::{FileOptions, Format};
+pub use suite::suite_all;
 pub use sum::sum_all;

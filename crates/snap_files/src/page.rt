@@ -10,6 +10,7 @@ ghost use Rattle.snap_names.specs.Said.{trouble_text};
 
 use crate::counts::{counts_object, named_counts};
 use crate::format::{FileOptions, Format};
+use crate::test_case::{test_case, trouble_case};
 use snap_check::{CheckOptions, RunFault, check_run_with};
 use snap_core::{Counted, Gate};
 use snap_names::{Opener, Trouble, name_lines, put_shown, trouble_line, trouble_words};
@@ -130,6 +131,7 @@ fn text_page<Rt: Threads + Sync, R: Read, G: Gate>(
         Format::Json => shown_object(rt, alloc, name, reader, cutting, options.check),
         Format::Counts => named_counts(rt, alloc, name, reader, cutting, options.check),
         Format::CountsObject => counts_object(rt, alloc, name, reader, cutting, options.check),
+        Format::Junit => test_case(rt, alloc, name, reader, cutting, options.check),
     }
 }
 
@@ -150,6 +152,12 @@ fn trouble_page(alloc: Global, name: &[u8], met: Trouble, format: Format) -> (Tr
         Format::Json | Format::CountsObject => {
             match trouble_object(alloc, name, met) {
                 Ok(line) => (met, line),
+                Err(_) => (Trouble::Memory, Vec::new(alloc)),
+            }
+        }
+        Format::Junit => {
+            match trouble_case(alloc, name, met) {
+                Ok(text) => (met, text),
                 Err(_) => (Trouble::Memory, Vec::new(alloc)),
             }
         }

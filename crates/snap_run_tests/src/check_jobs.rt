@@ -3,14 +3,14 @@ use self::Asked::{Followed, Judged, Shown};
 use crate::jobs::job_on;
 use snap_core::Limit;
 use snap_threads::Cutting;
-use snap_words::{Color, Job, Options, Windows};
+use snap_words::{Color, Format, Job, Options, Windows};
 use std::test::Fail;
 
 // What is compared of the check that a line asks for.
 #[derive(Clone, Copy)]
 enum Asked {
-    // its pieces and workers, whether it is quiet, its least number of views, whether it answers with an object, and its limit of events
-    Judged(u32, u32, bool, u32, bool, usize),
+    // its pieces and workers, whether it is quiet, its least number of views, its format, and its limit of events
+    Judged(u32, u32, bool, u32, Format, usize),
     // whether it asks for sums and for no line of progress, and when its verdicts have colours
     Shown(bool, bool, Color),
     // that it goes by windows, from how many events on they end, and after how many idle seconds it ends
@@ -19,59 +19,69 @@ enum Asked {
 
 // Lines, and what is compared of the check that each asks for.
 const CHECKS: &[(&str, Asked)] = &[
-    ("snapjudge check", Judged(8, 2, false, 0, false, 65536)),
+    (
+        "snapjudge check",
+        Judged(8, 2, false, 0, Format::Plain, 65536),
+    ),
     (
         "snapjudge check --pieces 3 --workers 4",
-        Judged(3, 4, false, 0, false, 65536),
+        Judged(3, 4, false, 0, Format::Plain, 65536),
     ),
     (
         "snapjudge check --workers=8 --pieces=1024",
-        Judged(1024, 8, false, 0, false, 65536),
+        Judged(1024, 8, false, 0, Format::Plain, 65536),
     ),
     (
         "snapjudge check --pieces 1 --workers 1",
-        Judged(1, 1, false, 0, false, 65536),
+        Judged(1, 1, false, 0, Format::Plain, 65536),
     ),
     (
         "snapjudge check --quiet",
-        Judged(8, 2, true, 0, false, 65536),
+        Judged(8, 2, true, 0, Format::Plain, 65536),
     ),
-    ("snapjudge check -q", Judged(8, 2, true, 0, false, 65536)),
+    (
+        "snapjudge check -q",
+        Judged(8, 2, true, 0, Format::Plain, 65536),
+    ),
     (
         "snapjudge check --workers 3 --quiet",
-        Judged(8, 3, true, 0, false, 65536),
+        Judged(8, 3, true, 0, Format::Plain, 65536),
     ),
     (
         "snapjudge check --views 0",
-        Judged(8, 2, false, 0, false, 65536),
+        Judged(8, 2, false, 0, Format::Plain, 65536),
     ),
     (
         "snapjudge check --views 5",
-        Judged(8, 2, false, 5, false, 65536),
+        Judged(8, 2, false, 5, Format::Plain, 65536),
     ),
     (
         "snapjudge check --views=32768 --pieces 7 --quiet",
-        Judged(7, 2, true, 32768, false, 65536),
+        Judged(7, 2, true, 32768, Format::Plain, 65536),
     ),
     (
         "snapjudge check --format json",
-        Judged(8, 2, false, 0, true, 65536),
+        Judged(8, 2, false, 0, Format::Json, 65536),
+    ),
+    (
+        "snapjudge check --format junit --views 3",
+        Judged(8, 2, false, 3, Format::Junit, 65536),
     ),
     (
         "snapjudge check --format=plain --quiet",
-        Judged(8, 2, true, 0, false, 65536),
+        Judged(8, 2, true, 0, Format::Plain, 65536),
     ),
     (
         "snapjudge check --views 5 --format=json --pieces 7",
-        Judged(7, 2, false, 5, true, 65536),
+        Judged(7, 2, false, 5, Format::Json, 65536),
     ),
     (
         "snapjudge check --events 1",
-        Judged(8, 2, false, 0, false, 1),
+        Judged(8, 2, false, 0, Format::Plain, 1),
     ),
     (
         "snapjudge check --events=1048576 --views 524288",
-        Judged(8, 2, false, 524288, false, 1048576),
+        Judged(8, 2, false, 524288, Format::Plain, 1048576),
     ),
     ("snapjudge check", Shown(false, false, Color::Auto)),
     ("snapjudge check --summary", Shown(true, false, Color::Auto)),
@@ -108,12 +118,12 @@ const CHECKS: &[(&str, Asked)] = &[
 // Whether a check with such a cutting, limit and options is this one.
 fn is_asked(cutting: Cutting, limit: Limit, options: Options, asked: Asked) -> bool {
     match asked {
-        Judged(pieces, workers, quiet, views, json, events) => {
+        Judged(pieces, workers, quiet, views, format, events) => {
             cutting.pieces() == pieces
                 && cutting.workers() == workers
                 && options.quiet == quiet
                 && options.views == views
-                && options.json == json
+                && options.format == format
                 && limit.events() == events
         }
         Shown(summary, no_progress, color) => {

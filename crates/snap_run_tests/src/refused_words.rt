@@ -61,6 +61,9 @@ const OTHER_LINES: &[&str] = &[
     "snapjudge check --format JSON",
     "snapjudge check --format json --quiet",
     "snapjudge check --quiet --format=json",
+    "snapjudge check --quiet --format=junit",
+    "snapjudge check --format Junit",
+    "snapjudge stats --format junit",
     "snapjudge check --format json --format plain",
     "snapjudge check --follow=yes",
     "snapjudge check --window",
@@ -194,6 +197,18 @@ const TOGETHER: &[(&str, &str)] = &[
     (
         "snapjudge check --quiet --format json",
         "error: the argument '--quiet' cannot be used with '--format json'\n",
+    ),
+    (
+        "snapjudge check --format junit --quiet",
+        "error: the argument '--quiet' cannot be used with '--format junit'\n",
+    ),
+    (
+        "snapjudge check --summary --format junit",
+        "error: the argument '--summary' cannot be used with '--format junit'\n",
+    ),
+    (
+        "snapjudge check --format=junit --follow",
+        "error: the argument '--follow' cannot be used with '--format junit'\n",
     ),
     (
         "snapjudge check --summary --quiet",

@@ -17,7 +17,7 @@ explained_text limit text es records given status out have same e =
     inr (record { events = es; records = records; history = have; explained = subst (λ rs. ExplainsHistory es rs status out) same e })
 
 -- the record at a place is looked up in the room, which has the text if there may be such a record
-in_the_text : (limit : ℕ) (text room : List ℕ) (place : ℕ) (fault : TextFault) (out : List ℕ) → (0 < place → room ≡ text) → IsRefusalExplanation limit room place fault out → IsRefusalExplanation limit text place fault out
+pub in_the_text : (limit : ℕ) (text room : List ℕ) (place : ℕ) (fault : TextFault) (out : List ℕ) → (0 < place → room ≡ text) → IsRefusalExplanation limit room place fault out → IsRefusalExplanation limit text place fault out
 unfolding refusal_explanation
 in_the_text limit text room zero fault out leaves e = e
 in_the_text limit text room (suc n) fault out leaves e = subst (λ t. IsRefusalExplanation limit t (suc n) fault out) (leaves (omega arith)) e

@@ -5,3 +5,4 @@ pub mod Explaining
 pub mod Counted
 pub mod Telling
 pub mod Drawings
+pub mod TestCases

@@ -6,3 +6,4 @@ pub mod Telling
 pub mod Drawing
 pub mod Markups
 pub mod WitnessDrawing
+pub mod TestCases

@@ -1,5 +1,5 @@
 //! The runs of the program other than the plain check, from a reader to a writer. They write a JSON object, an explanation, a witness,
-//! a picture, counts, or a recording.
+//! a picture, counts, or a recording. The test case of a text is made here too.
 #![tactic(auto)]
 
 mod draw;
@@ -11,6 +11,7 @@ mod rounds;
 mod shrink;
 mod stats;
 mod tell;
+mod test_case;
 
 pub use draw::{draw_input, draw_run};
 pub use draw_witness::{draw_witness_input, draw_witness_run};
@@ -23,3 +24,4 @@ pub use rounds::{
 pub use shrink::{shrink_input, shrink_run};
 pub use stats::{stats_input, stats_run};
 pub use tell::{tell_input, tell_run};
+pub use test_case::case_input;

@@ -7,8 +7,9 @@ use Rattle.snap_core.specs.Limits.{IsLimit, event_limit}
 use Rattle.snap_threads.specs.Cuttings.{IsPieces, IsWorkers}
 use Rattle.snap_words.specs.CommandLine.{program_app}
 use Rattle.snap_record.specs.Plans.{AreRoundsWithin}
-use Rattle.snap_words.specs.Jobs.{AreViews, AsksCheck, AsksFollow, AsksLimit, AsksRecordWithin, AsksStatsWithin, Checking, Flags, IsOneForm, IsWindow, SaysColor, SaysOr, files_of, flag_text, format_text, inputs_at, inputs_in, names_unheeded, names_windows, plain_check, usual_rounds, usual_window}
+use Rattle.snap_words.specs.Jobs.{AreViews, AsksCheck, AsksFollow, AsksLimit, AsksRecordWithin, AsksStatsWithin, Checking, Flags, IsOneForm, IsWindow, SaysColor, SaysOr, files_of, flag_text, format_text, inputs_at, inputs_in, names_unheeded, names_windows, object_format, plain_check, usual_rounds, usual_window}
 use Rattle.snap_words.specs.Lines.{Means}
+use Rattle.snap_words.specs.declared.format.Format.TheVariants.{Plain}
 use Rattle.snap_words.specs.declared.job.Options.{Options}
 use Rattle.snap_words.specs.declared.job.Windows.{Windows}
 use Rattle.snap_words.specs.declared.word.TheConstants.{NUMBER_LIMIT}
@@ -93,7 +94,7 @@ saying asked pieces workers color unheeded = record {
   events = Some (decimal asked.events);
   views = Some (decimal asked.options.views);
   quiet = Some (flag_text asked.options.quiet);
-  format = Some (format_text asked.options.json);
+  format = Some (format_text asked.options.format);
   summary = Some (flag_text asked.options.summary);
   follow = Some (flag_text false);
   window = None;
@@ -165,10 +166,10 @@ plain_fit events options files events_fit views_fit one_form finer color once = 
   color_is = color;
 }
 
--- a whole report is one form of answer, and so is an object
+-- a whole report is one form of answer, and so is an object or a document
 pub whole : (options : Options) → options.quiet ≡ false → options.summary ≡ false → IsOneForm options
 whole options is_whole no_sums = record {
-  object = λ _. is_whole;
+  verdicts = λ quiet. absurd (false≢true (sym is_whole ∙ quiet));
   sums = λ sums. absurd (false≢true (sym no_sums ∙ sums));
 }
 
@@ -187,7 +188,7 @@ following events windows window idle said = record said {
   events = Some (decimal events);
   views = Some (decimal windows.views);
   quiet = Some (flag_text false);
-  format = Some (format_text false);
+  format = Some (format_text Plain);
   summary = Some (flag_text false);
   follow = Some (flag_text true);
   window = window;
@@ -224,7 +225,7 @@ follow_of words events windows files events_fit views_fit window_fits idle_fits 
 -- lines of `stats`
 pub stats_of : (events : ℕ) (json : Bool) (files : List Text) (words : List Text)
     → takes program_app words ≡ true → command_in (subcommand_of program_app words) ≡ Some (codes "stats")
-    → first_of (codes "format") (rows_by words) ≡ Some (format_text json) → AsksLimit events (rows_by words)
+    → first_of (codes "format") (rows_by words) ≡ Some (format_text (object_format json)) → AsksLimit events (rows_by words)
     → inputs_in files ≤ 1 → files_of (rows_by words) ≡ files
     → Means words (codes "stats") (AsksStatsWithin events json) files
 stats_of events json files words taken named format_is limit once files_are =

@@ -8,11 +8,12 @@ use Rattle.snap_core.specs.Limits.{IsLimit, event_limit}
 use Rattle.snap_record.specs.Plans.{AreRounds, AreRoundsWithin, AreWorkers, worker_limit}
 use Rattle.snap_threads.specs.Cuttings.{IsPieces, IsWorkers}
 use Rattle.snap_words.specs.declared.drawing.Form.{Form}
-use Rattle.snap_words.specs.declared.input.Input.{Input}
 use Rattle.snap_words.specs.declared.job.Job.{Job}
 use Rattle.snap_words.specs.declared.job.Job.TheVariants.{Check, Follow, Shrink, Explain, Draw, Stats, Record}
 use Rattle.snap_words.specs.declared.color.Color.{Color}
 use Rattle.snap_words.specs.declared.color.Color.TheVariants.{Auto, Always, Never}
+use Rattle.snap_words.specs.declared.format.Format.{Format}
+use Rattle.snap_words.specs.declared.format.Format.TheVariants.{Plain, Json, Junit}
 use Rattle.snap_words.specs.declared.job.Options.{Options}
 use Rattle.snap_words.specs.declared.job.Windows.{Windows}
 use Rattle.snap_words.specs.declared.word.TheConstants.{NUMBER_LIMIT}
@@ -21,10 +22,11 @@ use Rattle.snap_words.specs.declared.word.TheConstants.{NUMBER_LIMIT}
 abbrev pub AreViews : ℕ → ℕ → Type 0
 AreViews events n = 2 * n ≤ events
 
--- One form of answer is asked for. An object is not of the verdicts' lines alone, and sums are neither.
+-- One form of answer is asked for. The lines of the verdicts alone are those of reports, and sums are neither these nor of another
+-- format.
 pub record IsOneForm (options : Options) : Type 0 where
-  pub object : options.json ≡ true → options.quiet ≡ false
-  pub sums : options.summary ≡ true → (options.quiet ≡ false) × (options.json ≡ false)
+  pub verdicts : options.quiet ≡ true → options.format ≡ Plain
+  pub sums : options.summary ≡ true → (options.quiet ≡ false) × (options.format ≡ Plain)
 
 -- the number of events from which on a window ends is a limit, and at most that of a history
 abbrev pub IsWindow : ℕ → ℕ → Type 0
@@ -77,7 +79,7 @@ pub record Checking : Type 0 where
 
 -- the whole report, of any number of completed views, in as many pieces as the program chooses for a long text
 abbrev pub no_options : Options
-no_options = record { quiet = false; views = 0; json = false; summary = false; no_progress = false; color = Auto; finer = true }
+no_options = record { quiet = false; views = 0; format = Plain; summary = false; no_progress = false; color = Auto; finer = true }
 
 -- what is asked for if no option is given
 abbrev pub plain_check : Checking
@@ -192,13 +194,20 @@ given_or_none (Some names) = names
 abbrev pub files_of : List Row → List Text
 files_of rows = given_or_none (all_of (codes "file") rows)
 
-abbrev pub format_text : Bool → List ℕ
-format_text true = codes "json"
-format_text false = codes "plain"
+-- the word of a format
+abbrev pub format_text : Format → List ℕ
+format_text Plain = codes "plain"
+format_text Json = codes "json"
+format_text Junit = codes "junit"
+
+-- the format of objects, or of lines
+abbrev pub object_format : Bool → Format
+object_format true = Json
+object_format false = Plain
 
 -- whether --format asks for an object, and the limit of events; standard input is named at most once
 pub record AsksStatsWithin (events : ℕ) (json : Bool) (rows : List Row) : Type 0 where
-  pub format_is : first_of (codes "format") rows ≡ Some (format_text json)
+  pub format_is : first_of (codes "format") rows ≡ Some (format_text (object_format json))
   pub limit : AsksLimit events rows
   pub input_once : inputs_in (files_of rows) ≤ 1
 
@@ -269,7 +278,7 @@ pub record AsksCheck (rows : List Row) (asked : Checking) : Type 0 where
   pub workers_are : SaysOr 2 (one_of (codes "workers") rows) asked.workers
   pub views_are : one_of (codes "views") rows ≡ Some (decimal asked.options.views)
   pub quiet_is : one_of (codes "quiet") rows ≡ Some (flag_text asked.options.quiet)
-  pub format_is : first_of (codes "format") rows ≡ Some (format_text asked.options.json)
+  pub format_is : first_of (codes "format") rows ≡ Some (format_text asked.options.format)
   pub summary_is : one_of (codes "summary") rows ≡ Some (flag_text asked.options.summary)
   pub no_progress_is : one_of (codes "no-progress") rows ≡ Some (flag_text asked.options.no_progress)
   pub color_is : SaysColor (first_of (codes "color") rows) asked.options.color
@@ -288,7 +297,7 @@ pub record AsksFollow (events : ℕ) (rows : List Row) (windows : Windows) : Typ
   pub follow_is : one_of (codes "follow") rows ≡ Some (flag_text true)
   pub all_heeded : names_unheeded rows ≡ false
   pub quiet_is : one_of (codes "quiet") rows ≡ Some (flag_text false)
-  pub format_is : first_of (codes "format") rows ≡ Some (format_text false)
+  pub format_is : first_of (codes "format") rows ≡ Some (format_text Plain)
   pub summary_is : one_of (codes "summary") rows ≡ Some (flag_text false)
   pub null_is : one_of (codes "null") rows ≡ Some (flag_text false)
   pub views_are : one_of (codes "views") rows ≡ Some (decimal windows.views)

@@ -5,7 +5,7 @@ ghost use Rattle.clap.specs.declared.builder.command.Command.TheViews.{out-Comma
 ghost use Rattle.snap_words.specs.CommandLine.{check_app};
 
 use crate::command::command_of;
-use crate::word::{EVENTS, FILES, FORMAT, NUMBER_LIMIT, Takes, Word};
+use crate::word::{EVENTS, FILES, NUMBER_LIMIT, Takes, Word};
 use clap::Command;
 use snap_core::EVENT_CAP;
 use snap_threads::{PIECE_LIMIT, WORKER_LIMIT};
@@ -55,13 +55,19 @@ With --format json each history is answered by one JSON object on a line, which 
 name. It holds the status, the verdicts and the first fault of each kind with its calls and
 their records. A file that can't be read has an object too, with the reason. Not with --quiet.
 
+With --format junit one document of JUnit answers for all files, for systems that read the results
+of tests. It has a test case for each file. If the history is not atomic, or has too few views, the
+case has a failure with the sentences of explain. A file that is refused or can't be read is an
+error. The document comes once all files are judged. Not with --quiet.
+
 With --summary the reports are left out. Once all files are judged it prints how many there are, and
-how many have each status, with the first of them. Not with --quiet, and not with --format json.
+how many have each status, with the first of them. Not with --quiet, and not with --format json or junit.
 
 With --follow one recording is judged while it grows, window by window: a file, or all *.csv below a
 folder. Each window ends at a moment at which no call is open, and the next one begins from what was
 left. Each is answered by a line, and the sums come at the end. With --idle N that is when nothing has
-come for N seconds. Not with --quiet, --format json or --summary, nor with --pieces, --workers or --color.
+come for N seconds. Not with --quiet, --format json or junit, or --summary, nor with --pieces, --workers
+or --color.
 
 On a terminal a line on standard error shows how far it is, where there are more than 100 files or a
 second has passed. --no-progress leaves it out. The verdicts have colours there, unless --color never
@@ -140,7 +146,16 @@ const WORDS: &[Word<'static>] = &[
         help: "How many completed views the history must have, from 0 to half of its events: 32768",
     },
     EVENTS,
-    FORMAT,
+    Word {
+        id: "format",
+        long: Some("format"),
+        short: None,
+        takes: Takes::TextOr {
+            name: "FORMAT",
+            usual: "plain",
+        },
+        help: "Write reports, a JSON object for each history, or a document of JUnit: plain, json or junit",
+    },
     Word {
         id: "summary",
         long: Some("summary"),

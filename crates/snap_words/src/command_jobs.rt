@@ -9,11 +9,10 @@ ghost use Rattle.snap_words.specs.declared.job.Windows.{Windows};
 
 use crate::color::color_in;
 use crate::drawing::{Form, form_in};
+use crate::format::{format_in, is_plain, json_in};
 use crate::input::{Input, inputs_among};
 use crate::job::{Job, Options, Windows};
-use crate::option_values::{
-    events_in, flag_in, is_given, is_plain, json_in, limit_in, number_in, number_or,
-};
+use crate::option_values::{events_in, flag_in, is_given, limit_in, number_in, number_or};
 use crate::ranges::{are_rounds, are_views, is_one_form, is_window, rounds_for, window_for};
 use crate::refusals::{names_unheeded, names_windows};
 use clap::ArgMatches;
@@ -31,7 +30,7 @@ fn options_in(matches: &ArgMatches<'_>) -> Option<Options>
 {
     let quiet = flag_in(matches, "quiet");
     let views = number_in(matches, "views")?;
-    let json = json_in(matches)?;
+    let format = format_in(matches)?;
     let summary = flag_in(matches, "summary");
     let no_progress = flag_in(matches, "no-progress");
     let color = color_in(matches)?;
@@ -39,7 +38,7 @@ fn options_in(matches: &ArgMatches<'_>) -> Option<Options>
     Some(Options {
         quiet,
         views,
-        json,
+        format,
         summary,
         no_progress,
         color,

@@ -10,6 +10,7 @@ use crate::color::Color;
 use crate::command::program;
 use crate::command_jobs::job_in;
 use crate::drawing::Form;
+use crate::format::Format;
 use crate::input::{Input, input_in};
 use crate::refusals::usage_of;
 use clap::error::ErrorKind;
@@ -21,13 +22,13 @@ use std::alloc::{AllocError, Global};
 /// The options of a check besides its cutting and its limit.
 #[derive(Clone, Copy)]
 pub struct Options {
-    /// Whether only the lines of the verdicts are written of a report; not with `json`.
+    /// Whether only the lines of the verdicts are written of a report; not with another format.
     pub quiet: bool,
     /// The least number of completed views of a history.
     pub views: u32,
-    /// Whether a JSON object takes the place of the report.
-    pub json: bool,
-    /// Whether the sums of all files take the place of reports; not with `quiet` or `json`.
+    /// Whether reports are written, or what takes their place.
+    pub format: Format,
+    /// Whether the sums of all files take the place of reports; not with `quiet` or another format.
     pub summary: bool,
     /// Whether no line on a terminal shows the progress.
     pub no_progress: bool,

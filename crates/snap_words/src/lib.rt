@@ -8,6 +8,7 @@ mod command_jobs;
 mod draw_command;
 mod drawing;
 mod explain_command;
+mod format;
 mod given;
 mod input;
 mod job;
@@ -22,6 +23,7 @@ mod word;
 
 pub use color::Color;
 pub use drawing::Form;
+pub use format::Format;
 pub use given::{Words, wanted_by, words_of};
 pub use input::{Input, names_input_twice};
 pub use job::{Job, JobFault, Options, Windows, job_of};

@@ -7,6 +7,7 @@ ghost use Rattle.snap_words.specs.Jobs.{AsksCheck, AsksFollow, AsksPicture, Asks
 ghost use Rattle.snap_words.specs.Lines.{Means};
 ghost use Rattle.snap_words.specs.declared.color.Color.TheVariants.{Never};
 ghost use Rattle.snap_words.specs.declared.drawing.Form.TheVariants.{Lines, Page, Svg};
+ghost use Rattle.snap_words.specs.declared.format.Format.TheVariants.{Json, Junit};
 
 /// What lines of `check` ask for: 8 pieces and 2 workers if nothing else is said, and what each option says. If `--pieces 8` is said,
 /// the program chooses no other number. A window alone asks for no job. Neither does an option that has no use with `--follow`.
@@ -16,7 +17,8 @@ pub fn check_lines()
     ensures pieces { (name : Text) → Means (name ∷ codes "check" ∷ codes "--pieces" ∷ codes "8" ∷ []) (codes "check") (λ rows. AsksCheck rows (record plain_check { options = record no_options { finer = false } })) [] }
     ensures quiet { (name : Text) → Means (name ∷ codes "check" ∷ codes "--quiet" ∷ []) (codes "check") (λ rows. AsksCheck rows (record plain_check { options = record no_options { quiet = true } })) [] }
     ensures views { (name : Text) → Means (name ∷ codes "check" ∷ codes "--views" ∷ codes "5" ∷ []) (codes "check") (λ rows. AsksCheck rows (record plain_check { options = record no_options { views = 5 } })) [] }
-    ensures json { (name : Text) → Means (name ∷ codes "check" ∷ codes "--format" ∷ codes "json" ∷ []) (codes "check") (λ rows. AsksCheck rows (record plain_check { options = record no_options { json = true } })) [] }
+    ensures json { (name : Text) → Means (name ∷ codes "check" ∷ codes "--format" ∷ codes "json" ∷ []) (codes "check") (λ rows. AsksCheck rows (record plain_check { options = record no_options { format = Json } })) [] }
+    ensures junit { (name : Text) → Means (name ∷ codes "check" ∷ codes "--format" ∷ codes "junit" ∷ []) (codes "check") (λ rows. AsksCheck rows (record plain_check { options = record no_options { format = Junit } })) [] }
     ensures summary { (name : Text) → Means (name ∷ codes "check" ∷ codes "--summary" ∷ []) (codes "check") (λ rows. AsksCheck rows (record plain_check { options = record no_options { summary = true } })) [] }
     ensures follow { (name : Text) → Means (name ∷ codes "check" ∷ codes "--follow" ∷ codes "--window" ∷ codes "500" ∷ codes "--idle" ∷ codes "5" ∷ []) (codes "check") (λ rows. AsksFollow event_limit rows (record { least = 500; idle = 5; views = 0 })) [] }
     ensures few { (name : Text) → Means (name ∷ codes "check" ∷ codes "--follow" ∷ codes "--events" ∷ codes "500" ∷ []) (codes "check") (λ rows. AsksFollow 500 rows (record { least = 250; idle = 0; views = 0 })) [] }

@@ -1,8 +1,8 @@
 //! The values of the options of a command.
-ghost use Rattle.std.specs.Prelude.{◌≡◌, ◌<◌, ◌^◌, ℕ, Bool, Some, None, false, true, codes, decimal, is_some, IfSome, IsSomeAnd};
+ghost use Rattle.std.specs.Prelude.{◌≡◌, ◌<◌, ◌^◌, ℕ, Bool, Some, None, false, codes, decimal, is_some, IfSome, IsSomeAnd};
 ghost use Rattle.clap.specs.Words.{first_of, found_of, one_of, rows_of};
 ghost use Rattle.snap_core.specs.Limits.{IsLimit};
-ghost use Rattle.snap_words.specs.Jobs.{AsksLimit, SaysOr, flag_text, format_text};
+ghost use Rattle.snap_words.specs.Jobs.{AsksLimit, SaysOr, flag_text};
 
 use clap::ArgMatches;
 use snap_core::Limit;
@@ -35,27 +35,6 @@ pub(crate) fn flag_in(matches: &ArgMatches<'_>, id: &str) -> bool
     ensures absent { one_of id.now (rows_of (found_of matches.now)) ≡ None → result ≡ false }
 {
     matches.get_flag(id)
-}
-
-/// Whether a JSON object is asked for, or nothing if the word is not a format.
-pub(crate) fn json_in(matches: &ArgMatches<'_>) -> Option<bool>
-    ensures given { (json : Bool) → first_of (codes "format") (rows_of (found_of matches.now)) ≡ Some (format_text json) → result ≡ Some json }
-{
-    match matches.get_str("format")? {
-        "json" => Some(true),
-        "plain" => Some(false),
-        _ => None,
-    }
-}
-
-/// Whether reports are asked for, and no objects.
-pub(crate) fn is_plain(matches: &ArgMatches<'_>) -> bool
-    ensures { first_of (codes "format") (rows_of (found_of matches.now)) ≡ Some (format_text false) → result ≡ true }
-{
-    match json_in(matches) {
-        Some(json) => !json,
-        None => false,
-    }
 }
 
 /// The limit of events that is asked for.

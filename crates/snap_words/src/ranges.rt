@@ -4,6 +4,7 @@ ghost use Rattle.snap_core.specs.Limits.{IsLimit};
 ghost use Rattle.snap_record.specs.Plans.{AreRoundsWithin};
 ghost use Rattle.snap_words.specs.Jobs.{AreViews, IsOneForm, IsWindow, usual_rounds, usual_window};
 
+use crate::format::Format;
 use crate::job::Options;
 use snap_record::WORKER_LIMIT;
 
@@ -39,9 +40,9 @@ pub(crate) fn is_one_form(options: Options) -> bool
     ensures asked { IsOneForm options → result ≡ true }
 {
     if options.summary {
-        !options.quiet && !options.json
+        !options.quiet && options.format == Format::Plain
     } else {
-        !(options.quiet && options.json)
+        !options.quiet || options.format == Format::Plain
     }
 }
 

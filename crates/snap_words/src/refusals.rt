@@ -4,7 +4,8 @@ ghost use Rattle.clap.specs.Words.{found_of, rows_of};
 ghost use Rattle.snap_words.specs.Jobs.{names_unheeded, names_windows};
 
 use crate::color::color_in;
-use crate::option_values::{flag_in, is_given, json_in, number_in};
+use crate::format::{Format, format_in, json_in};
+use crate::option_values::{flag_in, is_given, number_in};
 use crate::ranges::{ROUND_EVENTS, are_rounds, are_views};
 use clap::ArgMatches;
 use std::alloc::{AllocError, Global};
@@ -43,11 +44,13 @@ fn unheeded_refusal(matches: &ArgMatches<'_>) -> &'static str {
 }
 
 // Why a check with --follow asks for no job.
-fn follow_refusal(matches: &ArgMatches<'_>, json: bool) -> &'static str {
+fn follow_refusal(matches: &ArgMatches<'_>, format: Format) -> &'static str {
     if flag_in(matches, "quiet") {
         "error: the argument '--follow' cannot be used with '--quiet'\n"
-    } else if json {
+    } else if format == Format::Json {
         "error: the argument '--follow' cannot be used with '--format json'\n"
+    } else if format == Format::Junit {
+        "error: the argument '--follow' cannot be used with '--format junit'\n"
     } else if flag_in(matches, "summary") {
         "error: the argument '--follow' cannot be used with '--summary'\n"
     } else if names_unheeded(matches) {
@@ -64,21 +67,42 @@ const NULL_ALONE: &str = "error: the argument '--null' needs '--files-from <LIST
 const INPUT_ONCE: &str = "error: - is standard input, and can be named once\n";
 
 const UNKNOWN_FORMAT: &str =
+    "error: invalid value for '--format <FORMAT>'\n  [possible values: plain, json, junit]\n\nFor more information, try '--help'.\n";
+
+const UNKNOWN_STATS_FORMAT: &str =
     "error: invalid value for '--format <FORMAT>'\n  [possible values: plain, json]\n\nFor more information, try '--help'.\n";
 
-// Why a check without --follow asks for no job.
-fn check_refusal(matches: &ArgMatches<'_>, json: bool) -> &'static str {
+// Why a check asks for two forms of answer, if it does.
+fn form_refusal(matches: &ArgMatches<'_>, format: Format) -> Option<&'static str> {
     let quiet = flag_in(matches, "quiet");
+    match (flag_in(matches, "summary"), format) {
+        (true, Format::Json) => {
+            Some("error: the argument '--summary' cannot be used with '--format json'\n")
+        }
+        (true, Format::Junit) => {
+            Some("error: the argument '--summary' cannot be used with '--format junit'\n")
+        }
+        (true, Format::Plain) if quiet => {
+            Some("error: the argument '--summary' cannot be used with '--quiet'\n")
+        }
+        (false, Format::Json) if quiet => {
+            Some("error: the argument '--quiet' cannot be used with '--format json'\n")
+        }
+        (false, Format::Junit) if quiet => {
+            Some("error: the argument '--quiet' cannot be used with '--format junit'\n")
+        }
+        _ => None,
+    }
+}
+
+// Why a check without --follow asks for no job.
+fn check_refusal(matches: &ArgMatches<'_>, format: Format) -> &'static str {
     if is_given(matches, "window") {
         "error: the argument '--window <N>' needs '--follow'\n"
     } else if is_given(matches, "idle") {
         "error: the argument '--idle <SECONDS>' needs '--follow'\n"
-    } else if flag_in(matches, "summary") && json {
-        "error: the argument '--summary' cannot be used with '--format json'\n"
-    } else if flag_in(matches, "summary") && quiet {
-        "error: the argument '--summary' cannot be used with '--quiet'\n"
-    } else if quiet && json {
-        "error: the argument '--quiet' cannot be used with '--format json'\n"
+    } else if let Some(refusal) = form_refusal(matches, format) {
+        refusal
     } else if flag_in(matches, "null") && !is_given(matches, "list") {
         NULL_ALONE
     } else {
@@ -89,7 +113,7 @@ fn check_refusal(matches: &ArgMatches<'_>, json: bool) -> &'static str {
 // Why counts are not asked for.
 fn stats_refusal(matches: &ArgMatches<'_>) -> &'static str {
     if json_in(matches).is_none() {
-        UNKNOWN_FORMAT
+        UNKNOWN_STATS_FORMAT
     } else {
         INPUT_ONCE
     }
@@ -107,15 +131,15 @@ fn refusal_of(matches: &ArgMatches<'_>) -> &'static str {
     let Some(inner) = matches.subcommand_matches("check") else {
         return "error: the argument '--judge' cannot be used with '--stamped'\n";
     };
-    let Some(json) = json_in(inner) else {
+    let Some(format) = format_in(inner) else {
         return UNKNOWN_FORMAT;
     };
     if color_in(inner).is_none() {
         "error: invalid value for '--color <WHEN>'\n  [possible values: auto, always, never]\n\nFor more information, try '--help'.\n"
     } else if flag_in(inner, "follow") {
-        follow_refusal(inner, json)
+        follow_refusal(inner, format)
     } else {
-        check_refusal(inner, json)
+        check_refusal(inner, format)
     }
 }
 

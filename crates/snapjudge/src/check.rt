@@ -6,10 +6,10 @@ use snap_commands::{
     progress_of, system, too_few_views,
 };
 use snap_core::{Counted, Limit, OpenGate};
-use snap_files::{check_all, sum_all};
+use snap_files::{check_all, suite_all, sum_all};
 use snap_names::{Opener, SystemText};
 use snap_threads::Cutting;
-use snap_words::{Input, Options};
+use snap_words::{Format, Input, Options};
 use std::alloc::{AllocError, Global};
 use std::fs::File;
 use std::io::Write;
@@ -40,7 +40,7 @@ fn check_text<Rt: Threads + Sync>(
     }
 }
 
-// The answers of some names, or their sums.
+// The answers of some names, or their sums or their document.
 fn answer_all<Rt: Threads + Sync, O: Opener, W: Write, E: Write>(
     rt: &Rt,
     alloc: Global,
@@ -53,9 +53,13 @@ fn answer_all<Rt: Threads + Sync, O: Opener, W: Write, E: Write>(
     asked: Options,
 ) -> Result<u8, RunFault> {
     let options = file_options(limit, asked);
+    let check = options.check;
     if asked.summary {
-        let check = options.check;
         sum_all(
+            rt, alloc, opener, names, writer, errors, cutting, &OpenGate, check,
+        )
+    } else if asked.format == Format::Junit {
+        suite_all(
             rt, alloc, opener, names, writer, errors, cutting, &OpenGate, check,
         )
     } else {
@@ -123,10 +127,10 @@ fn check_names<Rt: Threads + Sync>(
     result
 }
 
-// Whether the answers of a check have the names of their texts. Objects and sums always do. Reports do if there are several, or if
-// a list or a folder names the texts.
+// Whether the answers of a check have the names of their texts. Objects, documents and sums always do. Reports do if there are
+// several, or if a list or a folder names the texts.
 fn has_names(input: &Input, asked: Options) -> bool {
-    asked.json || asked.summary || input.has_sources() || input.files.len() > 1
+    asked.format != Format::Plain || asked.summary || input.has_sources() || input.files.len() > 1
 }
 
 // The name of standard input, alone.

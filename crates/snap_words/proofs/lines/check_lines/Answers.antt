@@ -7,6 +7,7 @@ use Rattle.clap.proofs.OnLiterals.{clap_on_literals}
 use Rattle.snap_core.specs.Limits.{event_limit}
 use Rattle.snap_words.specs.Jobs.{FollowsUnheeding, LacksFollow, inputs_in, no_options, plain_check}
 use Rattle.snap_words.specs.declared.color.Color.TheVariants.{Never}
+use Rattle.snap_words.specs.declared.format.Format.TheVariants.{Json, Junit}
 use Rattle.snap_words.proofs.Meanings.{Fit, check_of, follow_of, means, plain_fit, whole}
 use Rattle.snap_words.proofs.lines.check_lines.Goals as goal
 
@@ -45,16 +46,19 @@ pieces_fits = record {
 }
 
 quiet_fits : Fit (record plain_check { options = record no_options { quiet = true } }) [] None None None
-quiet_fits = plain_fit _ _ _ (omega arith, omega arith) (omega arith) (record { object = λ json. absurd (false≢true json); sums = λ sums. absurd (false≢true sums) }) refl refl (omega arith)
+quiet_fits = plain_fit _ _ _ (omega arith, omega arith) (omega arith) (record { verdicts = λ _. refl; sums = λ sums. absurd (false≢true sums) }) refl refl (omega arith)
 
 views_fits : Fit (record plain_check { options = record no_options { views = 5 } }) [] None None None
 views_fits = plain_fit _ _ _ (omega arith, omega arith) (omega arith) (whole _ refl refl) refl refl (omega arith)
 
-json_fits : Fit (record plain_check { options = record no_options { json = true } }) [] None None None
+json_fits : Fit (record plain_check { options = record no_options { format = Json } }) [] None None None
 json_fits = plain_fit _ _ _ (omega arith, omega arith) (omega arith) (whole _ refl refl) refl refl (omega arith)
 
+junit_fits : Fit (record plain_check { options = record no_options { format = Junit } }) [] None None None
+junit_fits = plain_fit _ _ _ (omega arith, omega arith) (omega arith) (whole _ refl refl) refl refl (omega arith)
+
 summary_fits : Fit (record plain_check { options = record no_options { summary = true } }) [] None None None
-summary_fits = plain_fit _ _ _ (omega arith, omega arith) (omega arith) (record { object = λ _. refl; sums = λ _. (refl, refl) }) refl refl (omega arith)
+summary_fits = plain_fit _ _ _ (omega arith, omega arith) (omega arith) (record { verdicts = λ _. refl; sums = λ _. (refl, refl) }) refl refl (omega arith)
 
 color_fits : Fit (record plain_check { options = record no_options { color = Never } }) [] None None (Some (codes "never"))
 color_fits = plain_fit _ _ _ (omega arith, omega arith) (omega arith) (whole _ refl refl) refl refl (omega arith)
@@ -92,7 +96,11 @@ returns-clause-views c = λ name. check_of (name ∷ codes "check" ∷ codes "--
 
 pub returns-clause-json : goal.returns-clause-json
 unfolding clap_on_literals digits
-returns-clause-json c = λ name. check_of (name ∷ codes "check" ∷ codes "--format" ∷ codes "json" ∷ []) (record plain_check { options = record no_options { json = true } }) [] false json_fits refl refl refl refl
+returns-clause-json c = λ name. check_of (name ∷ codes "check" ∷ codes "--format" ∷ codes "json" ∷ []) (record plain_check { options = record no_options { format = Json } }) [] false json_fits refl refl refl refl
+
+pub returns-clause-junit : goal.returns-clause-junit
+unfolding clap_on_literals digits
+returns-clause-junit c = λ name. check_of (name ∷ codes "check" ∷ codes "--format" ∷ codes "junit" ∷ []) (record plain_check { options = record no_options { format = Junit } }) [] false junit_fits refl refl refl refl
 
 pub returns-clause-summary : goal.returns-clause-summary
 unfolding clap_on_literals digits

@@ -1,0 +1,22 @@
+use Rattle.std.proofs.Common.{◌∙◌, ap}
+use Rattle.snap_core.specs.Counting.{inner_of}
+use Rattle.snap_explain.specs.declared.test_case.Ending.TheVariants.{Error}
+use Rattle.snap_explain.specs.TestCases.{ended_case}
+use Rattle.snap_format.specs.Records.{HaveRecords}
+use Rattle.snap_check.proofs.Runs.{with_text}
+use Rattle.snap_runs.proofs.TestCases.{refusal_case, text_case}
+use Rattle.snap_runs.proofs.test_case.case_input.Goals as goal
+
+pub returns-in-Ok-clause-answer : goal.returns-in-Ok-clause-answer
+returns-in-Ok-clause-answer g c =
+    let es = c.in-Ok.history.events in
+    let records = c.in-Ok.records.items in
+    with_text (λ text. HaveRecords c.args.limit.events text es records) _ (g.R.Read.remaining (inner_of c.args.reader.now)) c.in-Ok.ensures.text
+    (λ text have. text_case c.args.limit.events c.args.name.now c.args.least text es records c.deref.result.now _ _ have c.deref.ensures.value c.in_ok-history_case-in-Ok.ensures)
+
+pub returns-in-Err-Text-clause-answer : goal.returns-in-Err-Text-clause-answer
+returns-in-Err-Text-clause-answer g c =
+    let read = c.in-Err-Text in
+    refusal_case c.args.limit.events c.args.name.now c.args.least (g.R.Read.remaining (inner_of c.args.reader.now)) c.read_records.new.room.items c.deref-in-Err-Text.result.now read.field-0 read.place read.fault
+    c.in_ok-said-in-Err-Text.said.items c.in_ok-text-in-Err-Text.text.items read.ensures.text read.ensures.room read.field-0-is c.deref-in-Err-Text.ensures.value c.in_ok-said-in-Err-Text.ensures
+    (c.in_ok-text-in-Err-Text.ensures ∙ ap (ended_case Error c.args.name.now) c.deref-in-Err-Text-2.ensures.value)

@@ -1,0 +1,16 @@
+use Rattle.std.proofs.Common.{◌≤◌, ◌<◌, ◌∙◌, ap, arith, length, subst}
+use Rattle.snap_core.specs.Calls.{calls_of, views_of}
+use Rattle.snap_runs.specs.TestCases.{IsJudgedCase}
+use Rattle.snap_runs.proofs.test_case.history_case.Goals as goal
+
+pub returns-then-view_count-least : goal.returns-then-view_count-least
+returns-then-view_count-least g c =
+    let same = ap (λ es. length (views_of (calls_of es))) c.in_ok-index.ensures in
+    let few : length (views_of (calls_of c.args.history.now.events)) < c.args.least = omega (arith, same, c.view_count.ensures, c.if-view_count-least.true) in
+    (few, c.in_ok-text.ensures)
+
+pub returns : goal.returns
+returns g c =
+    let same = ap (λ es. length (views_of (calls_of es))) c.in_ok-index.ensures in
+    let enough : c.args.least ≤ length (views_of (calls_of c.args.history.now.events)) = omega (arith, same, c.view_count.ensures, c.if-view_count-least.false) in
+    (enough, subst (λ es. IsJudgedCase c.args.name.now es c.args.records.now c.in_ok-status.status c.in_ok-status.text.items) c.in_ok-index.ensures c.in_ok-status.ensures)
