@@ -38,9 +38,9 @@ is its view. The history is then always atomic. A scan that has found none after
 left out.
 
 Within some calls a thread gives up its turn, so that calls overlap: before one of the readings
-of a view, and before or behind the writing of a store. --seed N draws where, by the stamp of
-the call. Another N draws other places. The same N does not give the same run: threads run as
-the system lets them, and so calls get other stamps in each run.
+of a view, and before or after the write of a store. --seed N draws where, by the stamp of the
+call. Another N draws other places. The same N draws the same places for the same stamps. It may
+bring a run back, but need not: the system decides when threads run.
 
 With --judge it prints the history's report in place of the history: see
 `snapjudge check --help`. With --stamped each record has its event's stamp before the other
