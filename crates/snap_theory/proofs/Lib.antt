@@ -12,6 +12,7 @@ pub mod Windows
 pub mod Sides
 pub mod GoingOn
 mod WorkedWindows
+pub mod Ordered
 pub mod Entries
 pub mod Exceeding
 pub mod Local

@@ -6,6 +6,7 @@ pub mod Faults
 pub mod Rising
 pub mod KeyOrder
 pub mod Updates
+pub mod Versions
 pub mod FaultLaws
 pub mod Levels
 pub mod Keys
