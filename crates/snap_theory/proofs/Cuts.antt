@@ -11,7 +11,8 @@ use Rattle.snap_core.specs.Regular.{IsRegular, IsViewOf, IsUpdateOf, IsBegunBefo
 use Rattle.snap_core.proofs.Lists.{In, In-from_Contains, Contains-from_In, In-append_left, In-append_right, In-append_cases, Pairs, Pairs-left, Pairs-weaker}
 use Rattle.snap_core.proofs.Facts.{AreCalls, begins_no_later, precedes_to, shown_in, shown_number_at, shown_number_none}
 use Rattle.snap_theory.specs.Windows.{IsRegularFrom}
-use Rattle.snap_theory.proofs.Last.{Later, LastOf, NoneOf, last_of, later}
+use Rattle.snap_theory.specs.Versions.{IsLaterVersion}
+use Rattle.snap_theory.proofs.Last.{LastOf, NoneOf, last_of, later}
 
 pub record IsCut (front back : List Call) : Type 0 where
   pub calls : AreCalls (front ++ back)
@@ -73,10 +74,10 @@ not_back front back x a b i j = false_from_ne_true _ (λ h.
     omega (arith, p.before, p.begun, q.before, x.calls.rises b q.place (in_back front back b j) q.ends))
 
 -- updates of the front stand in the order of their numbers
-pub front_rises : (front back : List Call) → IsCut front back → Pairs Later front
-front_rises front back x = Pairs-weaker (λ a b. a.number < b.number) Later front step (Pairs-left (λ a b. a.number < b.number) front back x.calls.numbered)
+pub front_rises : (front back : List Call) → IsCut front back → Pairs IsLaterVersion front
+front_rises front back x = Pairs-weaker (λ a b. a.number < b.number) IsLaterVersion front step (Pairs-left (λ a b. a.number < b.number) front back x.calls.numbered)
   where
-    step : (a b : Call) → In a front → In b front → a.number < b.number → Later a b
+    step : (a b : Call) → In a front → In b front → a.number < b.number → IsLaterVersion a b
     step a b i j l = later (front ++ back) x.calls a b ia jb (false_from_ne_true _ back_first) (λ s. omega (arith, l, ap (λ (z : Call). z.number) s))
       where
         ia : Contains (front ++ back) a

@@ -9,8 +9,9 @@ use Rattle.snap_core.specs.Calls.{is_update_numbered, views_of}
 use Rattle.snap_theory.specs.Faults.{is_unwritten, integrity_fault, old_fault, early_fault, read_fault, write_fault, components, listed, integrity_faults, proximity_faults, read_faults, write_faults, HasNoLocalFault, HasNoFault}
 use Rattle.snap_core.proofs.Lists.{In, In-from_Contains, Contains-from_In, In-filter, In-from_filter, any_to}
 use Rattle.snap_core.proofs.Members.{In-map}
-use Rattle.snap_core.proofs.Facts.{AreCalls, ShowsEntry, shown_in, shows_positive}
+use Rattle.snap_core.proofs.Facts.{ShowsEntry, shown_in, shows_positive}
 use Rattle.snap_theory.proofs.Local.{PassesLocal, PassesAll, numbered_to}
+use Rattle.snap_theory.proofs.Ordered.{AreOrderedCalls}
 
 filter_fails : {X : Type 0} (p : X → Bool) (xs : List X) → filter p xs ≡ [] → (x : X) → In x xs → p x ≡ false
 filter_fails p xs e x i = false_from_ne_true (p x) (λ t. subst (In x) e (In-filter p xs x i t))
@@ -115,7 +116,7 @@ write_at calls e r j k v l i =
     (flat_map_nil (λ r. flat_map (λ j. map (λ k. (r, j, k)) (filter (write_fault calls r j) (listed r))) components) (views_of calls) e r (in_views calls r v)) j (in_range 256 0 j (omega arith) l))) k i
 
 -- a view shows the component of which it has a write fault
-pub write_shows : (calls : List Call) → AreCalls calls → (r : Call) (j k : ℕ) → write_fault calls r j k ≡ true → ShowsEntry r k
+pub write_shows : (calls : List Call) → AreOrderedCalls calls → (r : Call) (j k : ℕ) → write_fault calls r j k ≡ true → ShowsEntry r k
 unfolding write_fault
 write_shows calls f r j k h =
     let x = any_to (λ a. is_update_numbered j (suc (shown_number r j)) a && list_any (λ b. is_update_numbered k (shown_number r k) b && precedes a b) calls) calls h in
@@ -129,7 +130,7 @@ record WriteAt (r : Call) (j k : ℕ) : Type 0 where
   missed : j < 256
   lists : In k (listed r)
 
-write_components : (calls : List Call) → AreCalls calls → HaveByteComponents calls → (r : Call) (j k : ℕ) → write_fault calls r j k ≡ true → WriteAt r j k
+write_components : (calls : List Call) → AreOrderedCalls calls → HaveByteComponents calls → (r : Call) (j k : ℕ) → write_fault calls r j k ≡ true → WriteAt r j k
 unfolding write_fault
 write_components calls f b r j k h =
     let x = any_to (λ a. is_update_numbered j (suc (shown_number r j)) a && list_any (λ b. is_update_numbered k (shown_number r k) b && precedes a b) calls) calls h in
@@ -138,7 +139,7 @@ write_components calls f b r j k h =
     let s = write_shows calls f r j k h in
     record { missed = omega (arith, b x.it m.entry m.update, m.component); lists = in_listed r k s.entry s.is }
 
-pub tests_from_none : (calls : List Call) → AreCalls calls → HaveByteComponents calls → HasNoFault calls → PassesAll calls
+pub tests_from_none : (calls : List Call) → AreOrderedCalls calls → HaveByteComponents calls → HasNoFault calls → PassesAll calls
 tests_from_none calls f b h = record {
   local = tests_from_local calls b h.local;
   read = read_from calls h.read;

@@ -7,7 +7,7 @@ use Rattle.snap_core.specs.Calls.{Call, calls_of}
 use Rattle.snap_core.specs.Orders.{IsAtomic}
 use Rattle.snap_core.specs.Regular.{IsRegular}
 use Rattle.snap_core.proofs.Fits.{bytes_of_events}
-use Rattle.snap_core.proofs.Histories.{are_calls}
+use Rattle.snap_theory.proofs.Ordered.{are_ordered_calls, history_is_ordered}
 use Rattle.snap_theory.proofs.Local.{PassesAll, PassesLocal, local_tests, regular_meets}
 use Rattle.snap_theory.proofs.FaultLists.{none_from_passes}
 use Rattle.snap_theory.proofs.OrderLaws.{atomic_exactly}
@@ -30,7 +30,7 @@ not_atomic es h (Read r s) i a = false≢true (sym ((atomic_passes es h a).read 
 not_atomic es h (Write r j k) i a = false≢true (sym ((atomic_passes es h a).write r j k i.0) ∙ i.1)
 
 regular_passes : (es : List Event) → IsHistory es → IsRegular (calls_of es) → PassesLocal (calls_of es)
-regular_passes es h g = local_tests (calls_of es) (regular_meets (calls_of es) (are_calls es h) g)
+regular_passes es h g = local_tests (calls_of es) (regular_meets (calls_of es) (are_ordered_calls es (history_is_ordered es h)) g)
 
 pub not_regular : (es : List Event) → IsHistory es → (f : Fault) → is_local f ≡ true → IsFaultOf (calls_of es) f → IsRegular (calls_of es) → ⊥
 not_regular es h (Integrity r k) l i g = false≢true (sym ((regular_passes es h g).integrity r k i.0) ∙ i.1)

@@ -8,14 +8,16 @@ use Rattle.snap_core.specs.Calls.{Call, Operation, Updates, Views, precedes, is_
 use Rattle.snap_core.specs.Regular.{IsViewOf, IsUpdateOf}
 use Rattle.snap_theory.specs.Conditions.{MeetsConditions}
 use Rattle.snap_core.specs.Orders.{IsLegalOrder, is_completed, is_update, is_writing, last_written}
+use Rattle.snap_theory.specs.Versions.{IsLaterVersion, IsLegalInOrder}
 use Rattle.snap_theory.specs.Levels.{rank, is_printed, stands_by, printed_order}
 use Rattle.snap_core.proofs.Lists.{In, In-from_Contains, Contains-from_In, In-append_left, In-append_right, In-append_cases, In-get_or, Pairs, Pairs-left, Pairs-right, Pairs-across, Pairs-weaker, AllPairs-from_Pairs, any_from, Around, around}
-use Rattle.snap_core.proofs.Facts.{AreCalls, shown_in, shown_number_at, shown_number_none, precedes_to}
-use Rattle.snap_theory.proofs.Chain.{view_update_levels, update_view_levels}
+use Rattle.snap_core.proofs.Facts.{shown_in, shown_number_at, shown_number_none, precedes_to}
+use Rattle.snap_theory.proofs.Chain.{view_update_levels, update_view_levels, update_update_levels}
 use Rattle.snap_theory.proofs.Ranks.{Kind, an_update, a_view, kind_of, precedes_ranks, update_rank, view_rank}
 use Rattle.snap_theory.proofs.Printed.{Earlier, in_printed, to_printed, printed_pairs}
 use Rattle.snap_theory.proofs.Legal.{completed_view}
 use Rattle.snap_theory.proofs.LastWritten.{Writes, last_written_none, last_written_at}
+use Rattle.snap_theory.proofs.Ordered.{AreOrderedCalls}
 
 -- which of two calls stands first settles their ranks and numbers
 not_earlier : (calls : List Call) (a b : Call) → Earlier calls a b → rank calls b ≤ rank calls a → b.number ≤ a.number → ⊥
@@ -26,7 +28,7 @@ earlier_rank : (calls : List Call) (a b : Call) → Earlier calls a b → rank c
 earlier_rank calls a b (inl l) = omega arith
 earlier_rank calls a b (inr p) = omega (arith, p.0)
 
-printed_completed : (calls : List Call) → AreCalls calls → (c : Call) → Contains calls c → is_completed c ≡ true → is_printed calls c ≡ true
+printed_completed : (calls : List Call) → AreOrderedCalls calls → (c : Call) → Contains calls c → is_completed c ≡ true → is_printed calls c ≡ true
 unfolding is_completed is_printed
 printed_completed calls f c i h = go c.operation refl
   where
@@ -49,7 +51,7 @@ view_no_update : (c : Call) (e : Entry) → c.operation ≡ Updates e → is_vie
 unfolding is_view
 view_no_update c e h v = false≢true (sym (ap is_answer h) ∙ v)
 
-only_part : (calls : List Call) → AreCalls calls → (c : Call) → In c (printed_order calls) → Contains calls c × ((is_completed c ≡ true) ⊎ (is_update c ≡ true))
+only_part : (calls : List Call) → AreOrderedCalls calls → (c : Call) → In c (printed_order calls) → Contains calls c × ((is_completed c ≡ true) ⊎ (is_update c ≡ true))
 only_part calls f c i = go (kind_of calls c p.1)
   where
     p : In c calls × (is_printed calls c ≡ true)
@@ -59,7 +61,7 @@ only_part calls f c i = go (kind_of calls c p.1)
     go (an_update e w k) = (Contains-from_In calls c p.0, inr (update_is c e w))
     go (a_view v k) = (Contains-from_In calls c p.0, inl (completed_view calls f c (record { there = Contains-from_In calls c p.0; completed = v })))
 
-ordered_part : (calls : List Call) → AreCalls calls → MeetsConditions calls → (a b : Call) → In a (printed_order calls) → In b (printed_order calls) → Earlier calls a b → precedes b a ≡ false
+ordered_part : (calls : List Call) → AreOrderedCalls calls → MeetsConditions calls → (a b : Call) → In a (printed_order calls) → In b (printed_order calls) → Earlier calls a b → precedes b a ≡ false
 ordered_part calls f m a b i j e = false_from_ne_true (precedes b a) wrong
   where
     p : In a calls × (is_printed calls a ≡ true)
@@ -77,17 +79,14 @@ ordered_part calls f m a b i j e = false_from_ne_true (precedes b a) wrong
         let n = f.ordered b a cb ca (omega (arith, t.before, f.rises b t.place cb t.ends)) in
         not_earlier calls a b e r (omega (arith, n))
 
-precedes_number : (calls : List Call) → AreCalls calls → (a b : Call) → Contains calls a → Contains calls b → precedes a b ≡ true → a.number < b.number
-precedes_number calls f a b i j h = let t = precedes_to a b h in f.ordered a b i j (omega (arith, t.before, f.rises a t.place i t.ends))
-
 -- no update of a component stands after one of it with as great a number
-none_behind : (calls : List Call) → AreCalls calls → MeetsConditions calls → (c u : Call) (e d : Entry) → IsUpdateOf calls c e → IsUpdateOf calls u d → d.component ≡ e.component → d.number ≤ e.number → Earlier calls c u → ⊥
-none_behind calls f m c u e d x y same le b = elim (cases_order d.number e.number) [
+none_behind : (calls : List Call) → AreOrderedCalls calls → (c u : Call) (e d : Entry) → IsUpdateOf calls c e → IsUpdateOf calls u d → d.component ≡ e.component → d.number ≤ e.number → Earlier calls c u → ⊥
+none_behind calls f c u e d x y same le b = elim (cases_order d.number e.number) [
   | inl eq ↦ let one = f.one u c d e y x same eq in not_earlier calls c u b (le_at (λ z. rank calls z) u c one) (le_at (λ z. z.number) u c one)
   | inr (inl l) ↦
-      let h = f.follows u c d e y x same l in
-      not_earlier calls c u b (precedes_ranks calls m u c y.there x.there (an_update d y.writes (update_rank calls u d y.writes)) (an_update e x.writes (update_rank calls c e x.writes)) h)
-      (let n = precedes_number calls f u c y.there x.there h in omega arith)
+      let shows : (t : Call) → IsViewOf calls t → e.number ≤ shown_number t e.component → d.number ≤ shown_number t d.component = λ t v g. subst (λ k. d.number ≤ shown_number t k) (sym same) (omega (arith, l, g)) in
+      let level = update_update_levels calls d e shows in
+      not_earlier calls c u b (omega (arith, level, update_rank calls u d y.writes, update_rank calls c e x.writes)) (let n = f.ordered u c y.there x.there (f.begins u c d e y x same l) in omega arith)
   | inr (inr l) ↦ omega arith
 ]
   where
@@ -95,7 +94,7 @@ none_behind calls f m c u e d x y same le b = elim (cases_order d.number e.numbe
     le_at g a z eq = let q : g a ≡ g z = ap g eq in omega arith
 
 -- at each view's place the last update of k is the one that it shows
-latest_part : (calls : List Call) → AreCalls calls → MeetsConditions calls → (before after : List Call) (r : Call) → printed_order calls ≡ before ++ r ∷ after → is_view r ≡ true → (k : ℕ) → shown r k ≡ last_written k None before
+latest_part : (calls : List Call) → AreOrderedCalls calls → MeetsConditions calls → (before after : List Call) (r : Call) → printed_order calls ≡ before ++ r ∷ after → is_view r ≡ true → (k : ℕ) → shown r k ≡ last_written k None before
 latest_part calls f m before after r split v k = go (shown r k) refl
   where
     pairs : Pairs (Earlier calls) (before ++ r ∷ after)
@@ -153,23 +152,34 @@ latest_part calls f m before after r split v k = go (shown r k) refl
             let j : In u before = subst (In u) (sym part.same) (In-append_right u part.before (source.0 ∷ part.after) (inr i)) in
             let uc : IsUpdateOf calls u d = record { there = in_calls u (In-append_left u before (r ∷ after) j); writes = w.writes } in
             let ps : Pairs (Earlier calls) (part.before ++ source.0 ∷ part.after) = subst (Pairs (Earlier calls)) part.same (Pairs-left (Earlier calls) before (r ∷ after) pairs) in
-            none_behind calls f m source.0 u e d source.1 uc (w.component ∙ sym comp) (omega (arith, no_more u d j w, shown_number_at r k e s)) ((Pairs-right (Earlier calls) part.before (source.0 ∷ part.after) ps).0 u i)
+            none_behind calls f source.0 u e d source.1 uc (w.component ∙ sym comp) (omega (arith, no_more u d j w, shown_number_at r k e s)) ((Pairs-right (Earlier calls) part.before (source.0 ∷ part.after) ps).0 u i)
 
         found : Some e ≡ last_written k None before
         found = sym (ap (last_written k None) part.same ∙ last_written_at k None part.before part.after source.0 e (record { writes = source.1.writes; component = comp }) none)
 
+-- of two updates of a component the one that stands first has the lower number
+rising_part : (calls : List Call) → AreOrderedCalls calls → (a b : Call) → In a (printed_order calls) → In b (printed_order calls) → Earlier calls a b → IsLaterVersion a b
+rising_part calls f a b i j first d e v w same =
+    let x : IsUpdateOf calls a d = record { there = Contains-from_In calls a (in_printed calls a i).0; writes = v } in
+    let y : IsUpdateOf calls b e = record { there = Contains-from_In calls b (in_printed calls b j).0; writes = w } in
+    let not_less : ¬ (e.number ≤ d.number) = λ l. none_behind calls f a b d e x y (sym same) l first in
+    omega (arith, not_less)
+
 -- with the conditions, the printed order is legal
-pub printed_legal : (calls : List Call) → AreCalls calls → MeetsConditions calls → IsLegalOrder calls (printed_order calls)
-printed_legal calls f m = record {
-  only = λ i d l. only_part calls f _ (In-get_or (printed_order calls) i d l);
-  distinct = AllPairs-from_Pairs (λ a b. a ≢ b) (printed_order calls) (Pairs-weaker (Earlier calls) (λ a b. a ≢ b) (printed_order calls) apart pairs);
-  completed = λ c i h. Contains-from_In (printed_order calls) c (to_printed calls c (In-from_Contains calls c i) (printed_completed calls f c i h));
-  precedence = AllPairs-from_Pairs (λ a b. precedes b a ≡ false) (printed_order calls) (Pairs-weaker (Earlier calls) (λ a b. precedes b a ≡ false) (printed_order calls) (ordered_part calls f m) pairs);
-  latest = latest_part calls f m;
-}
+pub printed_legal : (calls : List Call) → AreOrderedCalls calls → MeetsConditions calls → IsLegalInOrder calls (printed_order calls)
+printed_legal calls f m = record { legal = legal; rising = AllPairs-from_Pairs IsLaterVersion (printed_order calls) (Pairs-weaker (Earlier calls) IsLaterVersion (printed_order calls) (rising_part calls f) pairs) }
   where
     pairs : Pairs (Earlier calls) (printed_order calls)
     pairs = printed_pairs calls f.numbered
 
     apart : (a b : Call) → In a (printed_order calls) → In b (printed_order calls) → Earlier calls a b → a ≢ b
     apart a b i j e s = not_earlier calls a b e (let q : rank calls a ≡ rank calls b = ap (rank calls) s in omega arith) (let q : a.number ≡ b.number = ap (λ (z : Call). z.number) s in omega arith)
+
+    legal : IsLegalOrder calls (printed_order calls)
+    legal = record {
+      only = λ i d l. only_part calls f _ (In-get_or (printed_order calls) i d l);
+      distinct = AllPairs-from_Pairs (λ a b. a ≢ b) (printed_order calls) (Pairs-weaker (Earlier calls) (λ a b. a ≢ b) (printed_order calls) apart pairs);
+      completed = λ c i h. Contains-from_In (printed_order calls) c (to_printed calls c (In-from_Contains calls c i) (printed_completed calls f c i h));
+      precedence = AllPairs-from_Pairs (λ a b. precedes b a ≡ false) (printed_order calls) (Pairs-weaker (Earlier calls) (λ a b. precedes b a ≡ false) (printed_order calls) (ordered_part calls f m) pairs);
+      latest = latest_part calls f m;
+    }

@@ -8,11 +8,8 @@ use Rattle.snap_core.specs.Calls.{Call, Operation, Updates, Views, precedes}
 use Rattle.snap_core.specs.Orders.{last_written, written_by}
 use Rattle.snap_core.proofs.Lists.{In, Pairs}
 use Rattle.snap_core.proofs.Facts.{AreCalls}
+use Rattle.snap_theory.specs.Versions.{IsLaterVersion}
 use Rattle.snap_theory.proofs.LastWritten.{last_written-append}
-
--- of two updates of one component, b has the greater number
-abbrev pub Later : Call → Call → Type 0
-Later a b = (d e : Entry) → a.operation ≡ Updates d → b.operation ≡ Updates e → d.component ≡ e.component → d.number < e.number
 
 -- the update whose entry a component has in the end
 pub record LastOf (k : ℕ) (xs : List Call) (o : Option Entry) : Type 0 where
@@ -32,7 +29,7 @@ pub record NoneOf (k : ℕ) (xs : List Call) (o p : Option Entry) : Type 0 where
 same_entry : (o : Operation) (d e : Entry) → o ≡ Updates d → o ≡ Updates e → d ≡ e
 same_entry o d e g h = let s : Updates d ≡ Updates e = sym g ∙ h in cc
 
-pub last_of : (k : ℕ) (o : Option Entry) (xs : List Call) → Pairs Later xs → NoneOf k xs o (last_written k o xs) ⊎ LastOf k xs (last_written k o xs)
+pub last_of : (k : ℕ) (o : Option Entry) (xs : List Call) → Pairs IsLaterVersion xs → NoneOf k xs o (last_written k o xs) ⊎ LastOf k xs (last_written k o xs)
 last_of k o [] p = inl (record { none = λ c d i. absurd i; is = refl })
 last_of k o (x ∷ xs) p = go (last_of k (written_by x.operation k o) xs p.1)
   where
@@ -67,7 +64,7 @@ last_of k o (x ∷ xs) p = go (last_of k (written_by x.operation k o) xs p.1)
         most c d (inr j) v h = w.most c d j v h
 
 -- an update that neither is nor precedes one before it has a greater number
-pub later : (calls : List Call) → AreCalls calls → (a b : Call) → Contains calls a → Contains calls b → precedes b a ≡ false → a ≢ b → Later a b
+pub later : (calls : List Call) → AreCalls calls → (a b : Call) → Contains calls a → Contains calls b → precedes b a ≡ false → a ≢ b → IsLaterVersion a b
 later calls f a b i j free other d e v w same = elim (cases_order d.number e.number) [
   | inl eq ↦ absurd (other (f.one a b d e (record { there = i; writes = v }) (record { there = j; writes = w }) same eq))
   | inr (inl less) ↦ less
@@ -75,7 +72,7 @@ later calls f a b i j free other d e v w same = elim (cases_order d.number e.num
 ]
 
 -- two lists of the same updates leave the same
-pub same_last : (calls : List Call) → AreCalls calls → (k : ℕ) (xs ys : List Call) → Pairs Later xs → Pairs Later ys → ((c : Call) → In c xs → Contains calls c) → ((c : Call) (e : Entry) → c.operation ≡ Updates e → In c xs → In c ys) → ((c : Call) (e : Entry) → c.operation ≡ Updates e → In c ys → In c xs) → last_written k None xs ≡ last_written k None ys
+pub same_last : (calls : List Call) → AreCalls calls → (k : ℕ) (xs ys : List Call) → Pairs IsLaterVersion xs → Pairs IsLaterVersion ys → ((c : Call) → In c xs → Contains calls c) → ((c : Call) (e : Entry) → c.operation ≡ Updates e → In c xs → In c ys) → ((c : Call) (e : Entry) → c.operation ≡ Updates e → In c ys → In c xs) → last_written k None xs ≡ last_written k None ys
 same_last calls f k xs ys p q there to from = go (last_of k None xs p) (last_of k None ys q)
   where
     go : NoneOf k xs None (last_written k None xs) ⊎ LastOf k xs (last_written k None xs) → NoneOf k ys None (last_written k None ys) ⊎ LastOf k ys (last_written k None ys) → last_written k None xs ≡ last_written k None ys

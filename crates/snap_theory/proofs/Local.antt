@@ -10,9 +10,9 @@ use Rattle.snap_theory.specs.Conditions.{MeetsConditions}
 use Rattle.snap_core.specs.Calls.{is_update_numbered, writes_number}
 use Rattle.snap_theory.specs.Faults.{writes_entry, is_unwritten, integrity_fault, old_fault, early_fault, exceeds, read_fault, write_fault}
 use Rattle.snap_core.proofs.Lists.{In, In-from_Contains, Contains-from_In, any_from, any_to}
-use Rattle.snap_core.proofs.Facts.{AreCalls, shown_in, shown_number_at, shows_positive, precedes_to, precedes_from, precedes_later}
+use Rattle.snap_core.proofs.Facts.{shown_in, shown_number_at, shows_positive, precedes_to, precedes_from, precedes_later}
 use Rattle.snap_theory.proofs.Exceeding.{exceeds_from, exceeds_to}
-use Rattle.snap_core.proofs.Facts.{begins_no_later}
+use Rattle.snap_theory.proofs.Ordered.{AreOrderedCalls, before_later, begins_no_later}
 
 -- the conditions on one view alone
 pub record MeetsLocal (calls : List Call) : Type 0 where
@@ -83,16 +83,15 @@ integrity_condition calls r k e t s =
     (p.it, entry_to calls e p.it p.there p.passes)
 
 -- an update of no greater number than one that precedes a call precedes it too
-pub earlier_precedes : (calls : List Call) → AreCalls calls → (a c b : Call) (d e : Entry) → IsUpdateOf calls a d → IsUpdateOf calls c e → d.component ≡ e.component → d.number ≤ e.number → precedes c b ≡ true → precedes a b ≡ true
+pub earlier_precedes : (calls : List Call) → AreOrderedCalls calls → (a c b : Call) (d e : Entry) → IsUpdateOf calls a d → IsUpdateOf calls c e → d.component ≡ e.component → d.number ≤ e.number → precedes c b ≡ true → precedes a b ≡ true
+unfolding precedes
 earlier_precedes calls f a c b d e x y same l h = elim (cases_order d.number e.number) [
   | inl eq ↦ subst (λ z. precedes z b ≡ true) (sym (f.one a c d e x y same eq)) h
-  | inr (inl less) ↦
-      let p = precedes_to c b h in
-      precedes_later a c b (f.follows a c d e x y same less) (omega (arith, p.before, f.rises c p.place y.there p.ends))
+  | inr (inl less) ↦ let p = precedes_to c b h in before_later a.ended p.place b.begun (f.ends a c d e p.place x y same less p.ends) p.before
   | inr (inr more) ↦ absurd (omega arith)
 ]
 
-old_condition : (calls : List Call) → AreCalls calls → (r c : Call) (e : Entry) → old_fault calls r e.component ≡ false → IsUpdateOf calls c e → precedes c r ≡ true → e.number ≤ shown_number r e.component
+old_condition : (calls : List Call) → AreOrderedCalls calls → (r c : Call) (e : Entry) → old_fault calls r e.component ≡ false → IsUpdateOf calls c e → precedes c r ≡ true → e.number ≤ shown_number r e.component
 unfolding old_fault
 old_condition calls f r c e t u h = omega (arith, not_more)
   where
@@ -103,7 +102,7 @@ old_condition calls f r c e t u h = omega (arith, not_more)
         false≢true (sym t ∙ any_from (λ a. is_update_numbered e.component (suc (shown_number r e.component)) a && precedes a r) calls x.call (In-from_Contains calls x.call x.update.there)
         (and_from _ _ (numbered_from e.component (suc (shown_number r e.component)) x.call x.entry x.update.writes x.component x.number) g))
 
-early_condition : (calls : List Call) → AreCalls calls → ((k : ℕ) (d : Entry) (r : Call) → IsViewOf calls r → shown r k ≡ Some d → (x : Call) × IsUpdateOf calls x d) → (r c : Call) (e : Entry) → early_fault calls r e.component ≡ false → IsViewOf calls r → IsUpdateOf calls c e → precedes r c ≡ true → shown_number r e.component < e.number
+early_condition : (calls : List Call) → AreOrderedCalls calls → ((k : ℕ) (d : Entry) (r : Call) → IsViewOf calls r → shown r k ≡ Some d → (x : Call) × IsUpdateOf calls x d) → (r c : Call) (e : Entry) → early_fault calls r e.component ≡ false → IsViewOf calls r → IsUpdateOf calls c e → precedes r c ≡ true → shown_number r e.component < e.number
 unfolding early_fault
 early_condition calls f written r c e t v u h = omega (arith, not_less)
   where
@@ -117,7 +116,7 @@ early_condition calls f written r c e t v u h = omega (arith, not_less)
         false≢true (sym t ∙ any_from (λ a. is_update_numbered e.component (shown_number r e.component) a && precedes r a) calls x.0 (In-from_Contains calls x.0 x.1.there)
         (and_from _ _ (numbered_from e.component (shown_number r e.component) x.0 s.entry x.1.writes k (sym n)) g))
 
-pub local_from_tests : (calls : List Call) → AreCalls calls → PassesLocal calls → MeetsLocal calls
+pub local_from_tests : (calls : List Call) → AreOrderedCalls calls → PassesLocal calls → MeetsLocal calls
 local_from_tests calls f t = record {
   integrity = λ r k e v s. integrity_condition calls r k e (t.integrity r k v) s;
   early = λ r c e v u h. early_condition calls f (λ k d s w. integrity_condition calls s k d (t.integrity s k w)) r c e (t.early r e.component v) v u h;
@@ -135,7 +134,7 @@ read_condition calls r s t h j = omega (arith, not_more)
     not_more : ¬ (shown_number s j < shown_number r j)
     not_more l = false≢true (sym t ∙ and_from _ _ (exceeds_from r s j l) (later h))
 
-write_condition : (calls : List Call) → AreCalls calls → MeetsLocal calls → (r a b : Call) (d e : Entry) → write_fault calls r d.component e.component ≡ false → IsViewOf calls r → IsUpdateOf calls a d → IsUpdateOf calls b e → precedes a b ≡ true → e.number ≤ shown_number r e.component → d.number ≤ shown_number r d.component
+write_condition : (calls : List Call) → AreOrderedCalls calls → MeetsLocal calls → (r a b : Call) (d e : Entry) → write_fault calls r d.component e.component ≡ false → IsViewOf calls r → IsUpdateOf calls a d → IsUpdateOf calls b e → precedes a b ≡ true → e.number ≤ shown_number r e.component → d.number ≤ shown_number r d.component
 unfolding write_fault
 write_condition calls f m r a b d e t v x y h l = omega (arith, not_more)
   where
@@ -152,7 +151,7 @@ write_condition calls f m r a b d e t v x y h l = omega (arith, not_more)
         false≢true (sym t ∙ any_from (λ c. is_update_numbered d.component (suc (shown_number r d.component)) c && list_any (λ q. is_update_numbered e.component (shown_number r e.component) q && precedes c q) calls) calls z.call (In-from_Contains calls z.call z.update.there)
         (and_from _ _ (numbered_from d.component (suc (shown_number r d.component)) z.call z.entry z.update.writes z.component z.number) inner))
 
-pub conditions_from_tests : (calls : List Call) → AreCalls calls → PassesAll calls → MeetsConditions calls
+pub conditions_from_tests : (calls : List Call) → AreOrderedCalls calls → PassesAll calls → MeetsConditions calls
 conditions_from_tests calls f t =
     let m = local_from_tests calls f t.local in
     record {
@@ -243,7 +242,7 @@ all_tests calls m = record { local = local_tests calls (local_of calls m); read 
 
 -- regular, and the conditions on one view alone
 
-pub regular_meets : (calls : List Call) → AreCalls calls → IsRegular calls → MeetsLocal calls
+pub regular_meets : (calls : List Call) → AreOrderedCalls calls → IsRegular calls → MeetsLocal calls
 regular_meets calls f g = record { integrity = written; early = early; old = old }
   where
     written : (r : Call) (k : ℕ) (e : Entry) → IsViewOf calls r → shown r k ≡ Some e → (c : Call) × IsUpdateOf calls c e
@@ -267,7 +266,7 @@ regular_meets calls f g = record { integrity = written; early = early; old = old
             let place : p.place ≡ x.2.place = cc in
             omega (arith, p.before, x.2.before, b, place)
 
-pub meets_regular : (calls : List Call) → AreCalls calls → MeetsLocal calls → IsRegular calls
+pub meets_regular : (calls : List Call) → AreOrderedCalls calls → MeetsLocal calls → IsRegular calls
 meets_regular calls f m = record { not_old = not_old; not_early = not_early }
   where
     not_old : (r c : Call) (e : Entry) → IsViewOf calls r → IsUpdateOf calls c e → shown_number r e.component < e.number → precedes c r ≡ false

@@ -10,7 +10,8 @@ use Rattle.snap_core.proofs.Facts.{AreCalls}
 use Rattle.snap_core.proofs.Begun.{Compared, alike, first, second, compare_splits}
 use Rattle.snap_theory.specs.Windows.{IsLegalOrderFrom, IsAtomicFrom}
 use Rattle.snap_theory.proofs.Legal.{Kept, Stands}
-use Rattle.snap_theory.proofs.Last.{Later, later, same_last, last_behind}
+use Rattle.snap_theory.specs.Versions.{IsLaterVersion, IsLegalInOrder}
+use Rattle.snap_theory.proofs.Last.{later, same_last, last_behind}
 use Rattle.snap_theory.proofs.Cuts.{IsCut, left_of, in_front, in_back, not_itself, not_back, front_rises}
 
 pub All-from_In : {X : Type 0} (P : X → Type 0) (xs : List X) → ((x : X) → In x xs → P x) → All P xs
@@ -21,9 +22,16 @@ Pairs-both R S [] p q = tt
 Pairs-both R S (x ∷ xs) p q = (λ y i. (p.0 y i, q.0 y i), Pairs-both R S xs p.1 q.1)
 
 -- the updates of an order stand in the order of their numbers
-order_rises : (calls order : List Call) → AreCalls calls → ((c : Call) → In c order → Contains calls c) → Pairs Kept order → Pairs (λ a b. a ≢ b) order → Pairs Later order
+order_rises : (calls order : List Call) → AreCalls calls → ((c : Call) → In c order → Contains calls c) → Pairs Kept order → Pairs (λ a b. a ≢ b) order → Pairs IsLaterVersion order
 order_rises calls order f there p q =
-    Pairs-weaker (λ a b. Kept a b × (a ≢ b)) Later order (λ a b i j h. later calls f a b (there a i) (there b j) h.0 h.1) (Pairs-both Kept (λ a b. a ≢ b) order p q)
+    Pairs-weaker (λ a b. Kept a b × (a ≢ b)) IsLaterVersion order (λ a b i j h. later calls f a b (there a i) (there b j) h.0 h.1) (Pairs-both Kept (λ a b. a ≢ b) order p q)
+
+-- where updates of one component follow one another, each legal order has rising numbers
+pub legal_in_order : (calls order : List Call) → AreCalls calls → IsLegalOrder calls order → IsLegalInOrder calls order
+legal_in_order calls order f o = record {
+  legal = o;
+  rising = AllPairs-from_Pairs IsLaterVersion order (order_rises calls order f (λ c i. (All-contains (Stands calls) order c o.only (Contains-from_In order c i)).0) (Pairs-from_AllPairs Kept order o.precedence) (Pairs-from_AllPairs (λ a b. a ≢ b) order o.distinct));
+}
 
 -- an order whose calls of the front stand before those of the back
 record Parted (front back order : List Call) : Type 0 where

@@ -4,8 +4,6 @@ use Rattle.std.specs.List.{filter, flat_map, range_with_len}
 use Rattle.snap_core.specs.declared.entry.Entry.{Entry}
 use Rattle.snap_core.specs.Entries.{AreEntries}
 use Rattle.snap_core.specs.Calls.{Call, calls_of, views_of, is_view, entries_of}
-use Rattle.snap_core.proofs.Facts.{AreCalls}
-use Rattle.snap_core.proofs.Histories.{are_calls}
 use Rattle.snap_core.proofs.Lists.{In, In-from_Contains, In-append_cases, Pairs, Pairs-append, Pairs-weaker, Pairs-filter, AllPairs-from_Pairs}
 use Rattle.snap_core.proofs.Members.{In-from_map, Pairs-map}
 use Rattle.snap_theory.specs.Faults.{components, listed, integrity_fault, old_fault, early_fault, read_fault, write_fault, integrity_faults, proximity_faults, read_faults, write_faults, first_of}
@@ -16,6 +14,8 @@ use Rattle.snap_theory.proofs.Entries.{AreSorted, sorted, sorted_tail, above}
 use Rattle.snap_theory.proofs.Local.{numbered_to}
 use Rattle.snap_theory.proofs.Components.{fit_views}
 use Rattle.snap_theory.proofs.FaultLists.{from_views}
+use Rattle.snap_theory.proofs.Ordered.{AreOrderedCalls, are_ordered_calls, history_is_ordered}
+use Rattle.snap_theory.specs.VersionLaws.{OrderedFaultsRise, OrderedUpdatesAreAlone}
 
 -- lists that are made of others
 
@@ -38,7 +38,7 @@ pairs_flat_map Q R f (x ∷ xs) p h far =
 abbrev Lower : Call → Call → Type 0
 Lower r s = r.number < s.number
 
-views_rise : (calls : List Call) → AreCalls calls → Pairs Lower (views_of calls)
+views_rise : (calls : List Call) → AreOrderedCalls calls → Pairs Lower (views_of calls)
 unfolding views_of
 views_rise calls f = Pairs-filter Lower is_view calls f.numbered
 
@@ -82,12 +82,12 @@ beside_views R found rs p far own =
     subst (λ z. R z b) x.is (subst (λ z. R (r, x.it) z) y.is (far r s x.it y.it l)))
 
 -- those of components that rise
-by_components : (calls : List Call) → AreCalls calls → (found : Call → List ℕ) → ((r : Call) → In r (views_of calls) → Pairs (λ j k. j < k) (found r)) → Pairs ByComponent (flat_map (λ r. map (λ k. (r, k)) (found r)) (views_of calls))
+by_components : (calls : List Call) → AreOrderedCalls calls → (found : Call → List ℕ) → ((r : Call) → In r (views_of calls) → Pairs (λ j k. j < k) (found r)) → Pairs ByComponent (flat_map (λ r. map (λ k. (r, k)) (found r)) (views_of calls))
 by_components calls f found rise =
     beside_views ByComponent found (views_of calls) (views_rise calls f) (λ r s j k l. inl l)
     (λ r i. Pairs-weaker (λ j k. j < k) (λ j k. ByComponent (r, j) (r, k)) (found r) (λ j k a b l. inr (refl, l)) (rise r i))
 
-by_others : (calls : List Call) → AreCalls calls → Pairs ByOther (read_faults calls (views_of calls))
+by_others : (calls : List Call) → AreOrderedCalls calls → Pairs ByOther (read_faults calls (views_of calls))
 unfolding read_faults
 by_others calls f =
     let found = λ (r : Call). filter (read_fault r) (views_of calls) in
@@ -117,7 +117,7 @@ of_view calls r f i =
     let y = In-from_map (λ k. (r, x.0, k)) (filter (write_fault calls r x.0) (listed r)) f x.2 in
     ap (λ (z : Call × ℕ × ℕ). z.0) (sym y.is)
 
-by_both : (calls : List Call) → AreCalls calls → ((r : Call) → In r (views_of calls) → AreEntries (entries_of r.operation)) → Pairs ByComponents (write_faults calls (views_of calls))
+by_both : (calls : List Call) → AreOrderedCalls calls → ((r : Call) → In r (views_of calls) → AreEntries (entries_of r.operation)) → Pairs ByComponents (write_faults calls (views_of calls))
 unfolding write_faults missed_by
 by_both calls f fit =
     pairs_flat_map Lower ByComponents (missed_by calls) (views_of calls) (views_rise calls f) (λ r i. missed_rise calls r (fit r i)) (λ r s a b l i j.
@@ -134,11 +134,11 @@ never_both : (f : Call × ℕ × ℕ) → ByComponents f f → ⊥
 never_both f (inl l) = omega (arith, l)
 never_both f (inr l) = never_itself (f.1, f.2) l.1
 
-pub faults_rise_always : FaultsRiseAlways
+pub ordered_faults_rise : OrderedFaultsRise
 unfolding integrity_faults proximity_faults
-faults_rise_always es h fits =
+ordered_faults_rise es h fits =
     let calls = calls_of es in
-    let f = are_calls es h in
+    let f = are_ordered_calls es h in
     let fit = λ (r : Call) (i : In r (views_of calls)). fit_views es fits r (from_views calls r i).there in
     let old = λ (r : Call) (k : ℕ). old_fault calls r k || early_fault calls r k in
     record {
@@ -148,9 +148,17 @@ faults_rise_always es h fits =
       write = rise_strictly ByComponents never_both _ (by_both calls f fit);
     }
 
-pub updates_are_alone : UpdatesAreAlone
-updates_are_alone es h k n a b i j p q =
+pub ordered_updates_are_alone : OrderedUpdatesAreAlone
+ordered_updates_are_alone es h k n a b i j p q =
     let calls = calls_of es in
     let x = numbered_to calls k n a (In-from_Contains calls a i) p in
     let y = numbered_to calls k n b (In-from_Contains calls b j) q in
-    (are_calls es h).one a b x.entry y.entry x.update y.update (x.component ∙ sym y.component) (x.number ∙ sym y.number)
+    (are_ordered_calls es h).one a b x.entry y.entry x.update y.update (x.component ∙ sym y.component) (x.number ∙ sym y.number)
+
+-- of a history with one writer of each component
+
+pub faults_rise_always : FaultsRiseAlways
+faults_rise_always es h = ordered_faults_rise es (history_is_ordered es h)
+
+pub updates_are_alone : UpdatesAreAlone
+updates_are_alone es h = ordered_updates_are_alone es (history_is_ordered es h)

@@ -3,8 +3,8 @@ use Rattle.std.proofs.Common.{◌≡◌, ◌⊎◌, List, [], ◌∷◌, refl, s
 use Rattle.snap_core.specs.Calls.{Call}
 use Rattle.snap_theory.specs.Levels.{printed_order, StandsBefore, IsPrintedOrder}
 use Rattle.snap_core.proofs.Lists.{In, In-from_Contains, Contains-from_In, Pairs, Pairs-from_AllPairs, AllPairs-from_Pairs}
-use Rattle.snap_core.proofs.Facts.{AreCalls}
 use Rattle.snap_theory.proofs.Printed.{in_printed, to_printed, printed_pairs}
+use Rattle.snap_theory.proofs.Ordered.{AreOrderedCalls}
 
 pub same_list : {X : Type 0} (R : X → X → Type 0) → ((x y : X) → R x y → R y x → ⊥) → (xs ys : List X) → Pairs R xs → Pairs R ys → ((x : X) → In x xs → In x ys) → ((x : X) → In x ys → In x xs) → xs ≡ ys
 same_list R asym [] [] p q f g = refl
@@ -40,13 +40,13 @@ before_once calls a b (inl x) (inr y) = omega (arith, y.0)
 before_once calls a b (inr x) (inl y) = omega (arith, x.0)
 before_once calls a b (inr x) (inr y) = omega (arith, x.1, y.1)
 
-pub printed_is : (calls : List Call) → AreCalls calls → IsPrintedOrder calls (printed_order calls)
+pub printed_is : (calls : List Call) → AreOrderedCalls calls → IsPrintedOrder calls (printed_order calls)
 printed_is calls f = record {
   printed = λ c. (λ i. let p = in_printed calls c (In-from_Contains _ _ i) in (Contains-from_In _ _ p.0, p.1), λ h. Contains-from_In _ _ (to_printed calls c (In-from_Contains _ _ h.0) h.1));
   sorted = AllPairs-from_Pairs (StandsBefore calls) (printed_order calls) (printed_pairs calls f.numbered);
 }
 
-pub printed_alone : (calls order : List Call) → AreCalls calls → IsPrintedOrder calls order → order ≡ printed_order calls
+pub printed_alone : (calls order : List Call) → AreOrderedCalls calls → IsPrintedOrder calls order → order ≡ printed_order calls
 printed_alone calls order f o =
     same_list (StandsBefore calls) (before_once calls) order (printed_order calls) (Pairs-from_AllPairs (StandsBefore calls) order o.sorted) (printed_pairs calls f.numbered)
     (λ c i. let p = (o.printed c).0 (Contains-from_In _ _ i) in to_printed calls c (In-from_Contains _ _ p.0) p.1)

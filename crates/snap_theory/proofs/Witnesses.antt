@@ -16,6 +16,8 @@ use Rattle.snap_core.proofs.Histories.{are_calls}
 use Rattle.snap_theory.specs.Updates.{update_of}
 use Rattle.snap_theory.proofs.Local.{numbered_to, numbered_from, PassesAll, all_tests}
 use Rattle.snap_theory.proofs.Backward.{legal_meets}
+use Rattle.snap_theory.proofs.Ordered.{are_ordered_calls, history_is_ordered}
+use Rattle.snap_theory.proofs.Orders.{legal_in_order}
 use Rattle.snap_theory.specs.Kept.{alone, is_place_of, kept_call, kept_events, kept_from, kept_operation}
 use Rattle.snap_theory.specs.Choices.{AreChosen, KeepsCalls}
 use Rattle.snap_theory.specs.Witness.{numbers_of, found_call, updates_kept, witness_calls, witness_of, in_witness, AreWitnesses}
@@ -161,7 +163,7 @@ shows_none es rs ps h n r k v d =
 
 -- an atomic history passes every test
 pub atomic_passes : (es : List Event) → IsHistory es → IsAtomic (calls_of es) → PassesAll (calls_of es)
-atomic_passes es h a = all_tests (calls_of es) (legal_meets (calls_of es) a.0 (are_calls es h) a.1)
+atomic_passes es h a = all_tests (calls_of es) (legal_meets (calls_of es) a.0 (are_ordered_calls es (history_is_ordered es h)) (legal_in_order (calls_of es) a.0 (are_calls es h) a.1))
 
 -- the call that a call of the witness was
 pub record OriginOf (es : List Event) (ps : List (ℕ × ℕ)) (d : Call) : Type 0 where

@@ -7,6 +7,7 @@ pub mod Rising
 pub mod KeyOrder
 pub mod Updates
 pub mod Versions
+pub mod VersionLaws
 pub mod FaultLaws
 pub mod Levels
 pub mod Keys
