@@ -1,0 +1,36 @@
+//! Laws of ordered histories: several processes may write a component, and its updates begin and end in the order of their numbers.
+ghost use Rattle.snap_theory.specs.VersionLaws.{HistoriesAreOrdered, LegalOrdersRise, OrderedPrintsLegalOrder, LegalInOrderHasNoFault, AtomicInOrderExactly, OrderedConditionsExactly, OrderedRegularExactly, AtomicInOrderIsMonotone, OrderedPrintedAlone, OrderedKeysGiveOrder, OrderedUpdatesAreAlone, OrderedFaultsRise};
+
+/// A history, with one writer of each component, is ordered. In each of its legal orders the numbers of each component rise.
+pub fn histories_are_ordered()
+    ensures ordered { HistoriesAreOrdered }
+    ensures rising { LegalOrdersRise }
+{}
+
+/// The Shrinking Lemma with several writers: an ordered history has a legal order with rising numbers exactly when it has no
+/// fault, and then the printed order is one.
+pub fn ordered_shrinking_lemma()
+    ensures printed { OrderedPrintsLegalOrder }
+    ensures no_fault { LegalInOrderHasNoFault }
+    ensures atomic { AtomicInOrderExactly }
+{}
+
+/// The four conditions hold of an ordered history exactly when there is no fault. It is regular exactly when no view has a fault
+/// of its own. If it is atomic in order, it is monotone.
+pub fn ordered_by_faults()
+    ensures conditions { OrderedConditionsExactly }
+    ensures regular { OrderedRegularExactly }
+    ensures monotone { AtomicInOrderIsMonotone }
+{}
+
+/// The printed order of an ordered history is the only sorted list of the printed calls, and a sort of keys gives it.
+pub fn ordered_printed_order_is_alone()
+    ensures alone { OrderedPrintedAlone }
+    ensures keys { OrderedKeysGiveOrder }
+{}
+
+/// The faults of an ordered history rise strictly, and at most one update has a given component and number.
+pub fn ordered_faults_rise()
+    ensures rise { OrderedFaultsRise }
+    ensures alone { OrderedUpdatesAreAlone }
+{}
