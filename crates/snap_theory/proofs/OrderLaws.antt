@@ -11,7 +11,7 @@ use Rattle.snap_theory.proofs.Backward.{legal_meets}
 use Rattle.snap_theory.proofs.FaultLaws.{ordered_meets, none_from_meets}
 use Rattle.snap_theory.proofs.Ordered.{are_ordered_calls, history_is_ordered}
 use Rattle.snap_theory.proofs.Orders.{legal_in_order}
-use Rattle.snap_theory.specs.VersionLaws.{OrderedPrintsLegalOrder, LegalInOrderHasNoFault, AtomicInOrderExactly, AtomicInOrderIsMonotone, OrderedPrintedAlone, OrderedKeysGiveOrder, LegalOrdersRise}
+use Rattle.snap_theory.specs.VersionLaws.{OrderedPrintsLegalOrder, LegalInOrderHasNoFault, AtomicInOrderExactly, AtomicInOrderIsMonotone, OrderedPrintedAlone, OrderedKeysGiveOrder, LegalOrdersRise, AtomicIsInOrder}
 use Rattle.snap_theory.proofs.StaleViews.{monotone_without_read_fault}
 use Rattle.snap_core.proofs.Histories.{are_calls}
 
@@ -43,6 +43,9 @@ legal_start_grows calls before c = (λ h. start_push calls before c h.0 h.1, sta
 pub legal_orders_rise : LegalOrdersRise
 legal_orders_rise es h order o = legal_in_order (calls_of es) order (are_calls es h) o
 
+pub atomic_is_in_order : AtomicIsInOrder
+atomic_is_in_order es h = (λ a. (a.0, a.1.legal), λ a. (a.0, legal_orders_rise es h a.0 a.1))
+
 pub prints_legal_order : PrintsLegalOrder
 prints_legal_order es h b n = (ordered_prints_legal_order es (history_is_ordered es h) b n).legal
 
@@ -50,10 +53,12 @@ pub legal_order_has_no_fault : LegalOrderHasNoFault
 legal_order_has_no_fault es h order o = legal_in_order_has_no_fault es (history_is_ordered es h) order (legal_orders_rise es h order o)
 
 pub atomic_exactly : AtomicExactly
-atomic_exactly es h b = (λ a. legal_order_has_no_fault es h a.0 a.1, λ n. (printed_order (calls_of es), prints_legal_order es h b n))
+atomic_exactly es h b =
+    let o = history_is_ordered es h in
+    (λ a. (atomic_in_order_exactly es o b).0 ((atomic_is_in_order es h).1 a), λ n. (atomic_is_in_order es h).0 ((atomic_in_order_exactly es o b).1 n))
 
 pub atomic_is_monotone : AtomicIsMonotone
-atomic_is_monotone es h a = atomic_in_order_is_monotone es (history_is_ordered es h) (a.0, legal_orders_rise es h a.0 a.1)
+atomic_is_monotone es h a = atomic_in_order_is_monotone es (history_is_ordered es h) ((atomic_is_in_order es h).1 a)
 
 pub printed_order_alone : PrintedOrderAlone
 printed_order_alone es h = ordered_printed_alone es (history_is_ordered es h)

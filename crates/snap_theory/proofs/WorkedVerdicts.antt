@@ -16,9 +16,18 @@ use Rattle.snap_core.specs.Regular.{IsRegular}
 use Rattle.snap_theory.specs.Faults.{HasNoLocalFault, exceeds, integrity_fault, old_fault, early_fault, read_fault, write_fault, integrity_faults, proximity_faults, read_faults, write_faults, is_stale, stale_count}
 use Rattle.snap_core.proofs.Worked as worked
 use Rattle.snap_core.proofs.WorkedHistories as histories
-use Rattle.snap_theory.proofs.FaultLaws.{regular_exactly}
-use Rattle.snap_theory.proofs.OrderLaws.{atomic_exactly}
+use Rattle.snap_theory.specs.Versions.{IsOrdered, IsAtomicInOrder}
+use Rattle.snap_theory.proofs.FaultLaws.{ordered_regular_exactly}
+use Rattle.snap_theory.proofs.OrderLaws.{atomic_in_order_exactly, atomic_is_in_order}
+use Rattle.snap_theory.proofs.Ordered.{history_is_ordered}
 use Rattle.snap_theory.proofs.StaleViews.{monotone_exactly}
+
+-- a list of events is an ordered history, and regular, monotone and atomic in order exactly where these are true
+pub record IsWorkedInOrder (es : List Event) (regular monotone atomic : Bool) : Type 0 where
+  pub ordered : IsOrdered es
+  pub regular_exactly : IsTrue regular ↔ IsRegular (calls_of es)
+  pub monotone_exactly : IsTrue monotone ↔ IsMonotone (calls_of es)
+  pub atomic_exactly : IsTrue atomic ↔ IsAtomicInOrder (calls_of es)
 
 -- a list of events is a history, and regular, monotone and atomic exactly where these are true
 record IsWorked (es : List Event) (regular monotone atomic : Bool) : Type 0 where
@@ -28,22 +37,22 @@ record IsWorked (es : List Event) (regular monotone atomic : Bool) : Type 0 wher
   atomic_exactly : IsTrue atomic ↔ IsAtomic (calls_of es)
 
 -- each is counted, over all completed views
-abbrev local_faults : List Event → ℕ
+abbrev pub local_faults : List Event → ℕ
 unfolding calls_of precedes is_view shown shown_number is_update_numbered integrity_fault old_fault early_fault views_of integrity_faults proximity_faults
 local_faults es = length (integrity_faults (calls_of es) (views_of (calls_of es))) + length (proximity_faults (calls_of es) (views_of (calls_of es)))
 
-abbrev faults : List Event → ℕ
+abbrev pub faults : List Event → ℕ
 unfolding local_faults calls_of precedes is_view shown shown_number is_update_numbered exceeds read_fault write_fault views_of read_faults write_faults
 faults es = local_faults es + length (read_faults (calls_of es) (views_of (calls_of es))) + length (write_faults (calls_of es) (views_of (calls_of es)))
 
-abbrev stale_views : List Event → ℕ
+abbrev pub stale_views : List Event → ℕ
 unfolding calls_of precedes is_view shown shown_number exceeds is_stale views_of stale_count
 stale_views es = stale_count (calls_of es) (views_of (calls_of es))
 
-abbrev is_byte : Entry → Bool
+abbrev pub is_byte : Entry → Bool
 is_byte e = nat_lt e.component component_count
 
-abbrev has_bytes : Event → Bool
+abbrev pub has_bytes : Event → Bool
 has_bytes (BeginUpdate p e) = is_byte e
 has_bytes (BeginView p) = true
 has_bytes (EndUpdate p) = true
@@ -59,22 +68,22 @@ none : {X : Type 0} (xs : List X) → length xs ≡ 0 → xs ≡ []
 none [] e = refl
 none (x ∷ xs) e = absurd (omega (arith, e))
 
-by_counts : (es : List Event) → IsHistory es → list_all has_bytes es ≡ true → IsWorked es (local_faults es == 0) (stale_views es == 0) (faults es == 0)
+pub by_counts_in_order : (es : List Event) → IsOrdered es → list_all has_bytes es ≡ true → IsWorkedInOrder es (local_faults es == 0) (stale_views es == 0) (faults es == 0)
 unfolding local_faults faults stale_views
-by_counts es history bytes = record {
-  history = history;
+by_counts_in_order es ordered bytes = record {
+  ordered = ordered;
   regular_exactly = (
-    λ t. (regular_exactly es history components).1 (local t),
-    λ r. let n = (regular_exactly es history components).0 r in eq-eqb (local_faults es) 0 (omega (arith, ap length n.integrity, ap length n.proximity)),
+    λ t. (ordered_regular_exactly es ordered components).1 (local t),
+    λ r. let n = (ordered_regular_exactly es ordered components).0 r in eq-eqb (local_faults es) 0 (omega (arith, ap length n.integrity, ap length n.proximity)),
   );
   monotone_exactly = (λ t. (monotone_exactly calls).1 (eqb-true (stale_views es) 0 t), λ m. eq-eqb (stale_views es) 0 ((monotone_exactly calls).0 m));
   atomic_exactly = (
-    λ t. (atomic_exactly es history components).1 (record {
+    λ t. (atomic_in_order_exactly es ordered components).1 (record {
       local = local (eq-eqb (local_faults es) 0 (omega (arith, eqb-true (faults es) 0 t)));
       read = none _ (omega (arith, eqb-true (faults es) 0 t));
       write = none _ (omega (arith, eqb-true (faults es) 0 t));
     }),
-    λ a. let n = (atomic_exactly es history components).0 a in eq-eqb (faults es) 0 (omega (arith, ap length n.local.integrity, ap length n.local.proximity, ap length n.read, ap length n.write)),
+    λ a. let n = (atomic_in_order_exactly es ordered components).0 a in eq-eqb (faults es) 0 (omega (arith, ap length n.local.integrity, ap length n.local.proximity, ap length n.read, ap length n.write)),
   );
 }
   where
@@ -86,6 +95,18 @@ by_counts es history bytes = record {
 
     local : (local_faults es == 0) ≡ true → HasNoLocalFault calls
     local t = record { integrity = none _ (omega (arith, eqb-true (local_faults es) 0 t)); proximity = none _ (omega (arith, eqb-true (local_faults es) 0 t)) }
+
+by_counts : (es : List Event) → IsHistory es → list_all has_bytes es ≡ true → IsWorked es (local_faults es == 0) (stale_views es == 0) (faults es == 0)
+unfolding local_faults faults stale_views
+by_counts es history bytes =
+    let w = by_counts_in_order es (history_is_ordered es history) bytes in
+    let o = atomic_is_in_order es history in
+    record {
+      history = history;
+      regular_exactly = w.regular_exactly;
+      monotone_exactly = w.monotone_exactly;
+      atomic_exactly = (λ t. o.0 (w.atomic_exactly.0 t), λ a. w.atomic_exactly.1 (o.1 a));
+    }
 
 atomic_run : IsWorked worked.atomic_run true true true
 unfolding local_faults faults stale_views

@@ -4,7 +4,7 @@ use Rattle.snap_core.specs.declared.event.Event.{Event}
 use Rattle.snap_core.specs.Events.{IsHistory, HasByteComponents, EventFits}
 use Rattle.snap_core.specs.Calls.{Call, calls_of, is_update_numbered}
 use Rattle.snap_core.specs.Monotone.{IsMonotone}
-use Rattle.snap_core.specs.Orders.{IsLegalOrder}
+use Rattle.snap_core.specs.Orders.{IsLegalOrder, IsAtomic}
 use Rattle.snap_core.specs.Regular.{IsRegular}
 use Rattle.snap_theory.specs.Conditions.{MeetsConditions}
 use Rattle.snap_theory.specs.Faults.{HasNoLocalFault, HasNoFault}
@@ -17,9 +17,13 @@ use Rattle.snap_theory.specs.Versions.{IsOrdered, IsLegalInOrder, IsAtomicInOrde
 abbrev pub HistoriesAreOrdered : Type 0
 HistoriesAreOrdered = (events : List Event) → IsHistory events → IsOrdered events
 
--- in a legal order of a history the numbers of each component rise, so that a history is atomic in order exactly when it is atomic
+-- in a legal order of a history the numbers of each component rise
 abbrev pub LegalOrdersRise : Type 0
 LegalOrdersRise = (events : List Event) → IsHistory events → (order : List Call) → IsLegalOrder (calls_of events) order → IsLegalInOrder (calls_of events) order
+
+-- so a history is atomic in order exactly when it is atomic
+abbrev pub AtomicIsInOrder : Type 0
+AtomicIsInOrder = (events : List Event) → IsHistory events → IsAtomicInOrder (calls_of events) ↔ IsAtomic (calls_of events)
 
 -- if an ordered history has no fault, the printed order is legal, and the numbers of each component rise in it
 abbrev pub OrderedPrintsLegalOrder : Type 0

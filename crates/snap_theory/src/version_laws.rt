@@ -1,10 +1,12 @@
 //! Laws of ordered histories: several processes may write a component, and its updates begin and end in the order of their numbers.
-ghost use Rattle.snap_theory.specs.VersionLaws.{HistoriesAreOrdered, LegalOrdersRise, OrderedPrintsLegalOrder, LegalInOrderHasNoFault, AtomicInOrderExactly, OrderedConditionsExactly, OrderedRegularExactly, AtomicInOrderIsMonotone, OrderedPrintedAlone, OrderedKeysGiveOrder, OrderedUpdatesAreAlone, OrderedFaultsRise};
+ghost use Rattle.snap_theory.specs.VersionLaws.{HistoriesAreOrdered, LegalOrdersRise, AtomicIsInOrder, OrderedPrintsLegalOrder, LegalInOrderHasNoFault, AtomicInOrderExactly, OrderedConditionsExactly, OrderedRegularExactly, AtomicInOrderIsMonotone, OrderedPrintedAlone, OrderedKeysGiveOrder, OrderedUpdatesAreAlone, OrderedFaultsRise};
 
-/// A history, with one writer of each component, is ordered. In each of its legal orders the numbers of each component rise.
+/// A history, with one writer of each component, is ordered. In each of its legal orders the numbers of each component rise, so
+/// it is atomic in order exactly when it is atomic.
 pub fn histories_are_ordered()
     ensures ordered { HistoriesAreOrdered }
     ensures rising { LegalOrdersRise }
+    ensures atomic { AtomicIsInOrder }
 {}
 
 /// The Shrinking Lemma with several writers: an ordered history has a legal order with rising numbers exactly when it has no
