@@ -25,6 +25,7 @@ pub mod LastWritten
 pub mod OrderLaws
 mod WorkedOrders
 mod WorkedVerdicts
+mod WorkedVersions
 pub mod Backward
 pub mod Chain
 pub mod Forward

@@ -37,15 +37,15 @@ record IsWorked (es : List Event) (regular monotone atomic : Bool) : Type 0 wher
   atomic_exactly : IsTrue atomic ↔ IsAtomic (calls_of es)
 
 -- each is counted, over all completed views
-abbrev pub local_faults : List Event → ℕ
+unfoldable pub local_faults : List Event → ℕ
 unfolding calls_of precedes is_view shown shown_number is_update_numbered integrity_fault old_fault early_fault views_of integrity_faults proximity_faults
 local_faults es = length (integrity_faults (calls_of es) (views_of (calls_of es))) + length (proximity_faults (calls_of es) (views_of (calls_of es)))
 
-abbrev pub faults : List Event → ℕ
+unfoldable pub faults : List Event → ℕ
 unfolding local_faults calls_of precedes is_view shown shown_number is_update_numbered exceeds read_fault write_fault views_of read_faults write_faults
 faults es = local_faults es + length (read_faults (calls_of es) (views_of (calls_of es))) + length (write_faults (calls_of es) (views_of (calls_of es)))
 
-abbrev pub stale_views : List Event → ℕ
+unfoldable pub stale_views : List Event → ℕ
 unfolding calls_of precedes is_view shown shown_number exceeds is_stale views_of stale_count
 stale_views es = stale_count (calls_of es) (views_of (calls_of es))
 

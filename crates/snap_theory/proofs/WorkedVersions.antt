@@ -1,0 +1,162 @@
+-- Worked histories with two writers of one component, by computation.
+use Rattle.std.proofs.Common.{◌≡◌, ℕ, suc, ◌<◌, Bool, true, false, cond, ◌&&◌, ◌||◌, not, List, [], ◌∷◌, ◌++◌, append_assoc, append-nil, Option, Some, None, refl, sym, ap, ◌∙◌, subst, inl, inr, arith}
+use Rattle.std.specs.Prelude.{◌==◌, nat_lt, ⊤}
+use Rattle.std.specs.List.{list_all, count_by}
+use Rattle.std.proofs.lemmas.Bool.{false≢true, and_parts, and_from, eqb-true, eq-eqb, lt-ltb}
+use Rattle.snap_core.specs.declared.entry.Entry.{Entry}
+use Rattle.snap_core.specs.declared.event.Event.{Event}
+use Rattle.snap_core.specs.declared.event.Event.TheVariants.{BeginUpdate, BeginView, EndUpdate, EndView}
+use Rattle.snap_core.specs.Events.{process_of, IsBegin, Ends, TakeTurns, events_of, begins_update_of, IsWellFormed, IsNumbered}
+use Rattle.snap_core.specs.Calls.{Call, Operation, Updates, Views, calls_of, is_before}
+use Rattle.snap_core.specs.Regular.{IsUpdateOf}
+use Rattle.snap_core.proofs.Lists.{In, In-from_Contains, In-from_filter}
+use Rattle.snap_core.proofs.Worked.{entry}
+use Rattle.snap_theory.specs.Versions.{EndInOrder, IsOrdered}
+use Rattle.snap_theory.proofs.WorkedVerdicts.{IsWorkedInOrder, local_faults, faults, stale_views, by_counts_in_order}
+
+-- a test of ordered histories
+
+abbrev is_begin : Event → Bool
+is_begin (BeginUpdate p e) = true
+is_begin (BeginView p) = true
+is_begin _ = false
+
+abbrev is_end : Event → Event → Bool
+is_end (BeginUpdate p e) (EndUpdate q) = true
+is_end (BeginView p) (EndView q s) = true
+is_end _ _ = false
+
+abbrev take_turns : List Event → Bool
+take_turns [] = true
+take_turns (b ∷ []) = is_begin b
+take_turns (b ∷ e ∷ rest) = is_end b e && take_turns rest
+
+abbrev all_take_turns : List Event → Bool
+all_take_turns es = list_all (λ x. take_turns (events_of (process_of x) es)) es
+
+abbrev are_numbered : List Event → List Event → Bool
+are_numbered before [] = true
+are_numbered before (BeginUpdate p e ∷ es) = (e.number == suc (count_by (begins_update_of e.component) before)) && are_numbered (before ++ BeginUpdate p e ∷ []) es
+are_numbered before (x ∷ es) = are_numbered (before ++ x ∷ []) es
+
+abbrev ends_first : Option ℕ → Option ℕ → Bool
+ends_first o None = true
+ends_first o (Some place) = is_before o place
+
+-- if they are updates of a component, they end in the order of their numbers
+abbrev operations_in_order : Option ℕ → Option ℕ → Operation → Operation → Bool
+operations_in_order m n (Updates d) (Updates e) = not ((d.component == e.component) && nat_lt d.number e.number) || ends_first m n
+operations_in_order m n _ _ = true
+
+abbrev pair_in_order : Call → Call → Bool
+pair_in_order a b = operations_in_order a.ended b.ended a.operation b.operation
+
+abbrev end_in_order : List Call → Bool
+end_in_order calls = list_all (λ a. list_all (pair_in_order a) calls) calls
+
+abbrev are_ordered : List Event → Bool
+are_ordered es = all_take_turns es && (are_numbered [] es && end_in_order (calls_of es))
+
+-- what passes the test is ordered
+
+all_in : {X : Type 0} (p : X → Bool) (xs : List X) (x : X) → list_all p xs ≡ true → In x xs → p x ≡ true
+all_in p [] x h i = absurd i
+all_in p (y ∷ ys) x h (inl e) = subst (λ z. p z ≡ true) e (and_parts (p y) (list_all p ys) h).0
+all_in p (y ∷ ys) x h (inr i) = all_in p ys x (and_parts (p y) (list_all p ys) h).1 i
+
+begins_by : (b : Event) → is_begin b ≡ true → IsBegin b
+begins_by (BeginUpdate p e) h = tt
+begins_by (BeginView p) h = tt
+begins_by (EndUpdate p) h = absurd (false≢true h)
+begins_by (EndView p s) h = absurd (false≢true h)
+
+ends_by : (b e : Event) → is_end b e ≡ true → Ends b e
+ends_by (BeginUpdate p d) (EndUpdate q) h = tt
+ends_by (BeginView p) (EndView q s) h = tt
+ends_by (BeginUpdate p d) (BeginUpdate q e) h = absurd (false≢true h)
+ends_by (BeginUpdate p d) (BeginView q) h = absurd (false≢true h)
+ends_by (BeginUpdate p d) (EndView q s) h = absurd (false≢true h)
+ends_by (BeginView p) (BeginUpdate q e) h = absurd (false≢true h)
+ends_by (BeginView p) (BeginView q) h = absurd (false≢true h)
+ends_by (BeginView p) (EndUpdate q) h = absurd (false≢true h)
+ends_by (EndUpdate p) e h = absurd (false≢true h)
+ends_by (EndView p s) e h = absurd (false≢true h)
+
+turns_by : (es : List Event) → take_turns es ≡ true → TakeTurns es
+turns_by [] h = tt
+turns_by (b ∷ []) h = begins_by b h
+turns_by (b ∷ e ∷ rest) h = let p = and_parts (is_end b e) (take_turns rest) h in (ends_by b e p.0, turns_by rest p.1)
+
+well_formed_by : (es : List Event) → all_take_turns es ≡ true → IsWellFormed es
+well_formed_by es h p = go (events_of p es) refl
+  where
+    go : (own : List Event) → events_of p es ≡ own → TakeTurns (events_of p es)
+    go [] e = subst TakeTurns (sym e) tt
+    go (x ∷ own) e =
+        let i = In-from_filter (λ z. process_of z == p) es x (subst (In x) (sym e) (inl refl)) in
+        subst (λ q. TakeTurns (events_of q es)) (eqb-true (process_of x) p i.1) (turns_by (events_of (process_of x) es) (all_in (λ x. take_turns (events_of (process_of x) es)) es x h i.0))
+
+numbered_by : (front es : List Event) → are_numbered front es ≡ true → (before after : List Event) (p : ℕ) (e : Entry) → es ≡ before ++ BeginUpdate p e ∷ after → e.number ≡ suc (count_by (begins_update_of e.component) (front ++ before))
+numbered_by front [] h [] after p e s = absurd (cc)
+numbered_by front [] h (x ∷ before) after p e s = absurd (cc)
+numbered_by front (BeginUpdate q d ∷ es) h [] after p e s =
+    let same : d ≡ e = cc in
+    let n : d.number ≡ suc (count_by (begins_update_of d.component) front) = eqb-true _ _ (and_parts (d.number == suc (count_by (begins_update_of d.component) front)) (are_numbered (front ++ BeginUpdate q d ∷ []) es) h).0 in
+    subst (λ z. z.number ≡ suc (count_by (begins_update_of z.component) (front ++ []))) same (n ∙ ap (λ z. suc (count_by (begins_update_of d.component) z)) (sym (append-nil front)))
+numbered_by front (BeginView q ∷ es) h [] after p e s = absurd (cc)
+numbered_by front (EndUpdate q ∷ es) h [] after p e s = absurd (cc)
+numbered_by front (EndView q v ∷ es) h [] after p e s = absurd (cc)
+numbered_by front (y ∷ es) h (x ∷ before) after p e s =
+    let same : y ≡ x = cc in
+    numbered_by (front ++ y ∷ []) es (rest y h) before after p e (cc)
+    ∙ ap (λ z. suc (count_by (begins_update_of e.component) z)) (append_assoc front (y ∷ []) before ∙ ap (λ z. front ++ z ∷ before) same)
+  where
+    rest : (y : Event) → are_numbered front (y ∷ es) ≡ true → are_numbered (front ++ y ∷ []) es ≡ true
+    rest (BeginUpdate q d) h = (and_parts (d.number == suc (count_by (begins_update_of d.component) front)) (are_numbered (front ++ BeginUpdate q d ∷ []) es) h).1
+    rest (BeginView q) h = h
+    rest (EndUpdate q) h = h
+    rest (EndView q v) h = h
+
+in_order_by : (calls : List Call) → end_in_order calls ≡ true → EndInOrder calls
+in_order_by calls h a b d e place u w same less end =
+    let t = all_in (pair_in_order a) calls b (all_in (λ a. list_all (pair_in_order a) calls) calls a h (In-from_Contains calls a u.there)) (In-from_Contains calls b w.there) in
+    let lower : ((d.component == e.component) && nat_lt d.number e.number) ≡ true = and_from _ _ (eq-eqb _ _ same) (lt-ltb _ _ less) in
+    sym (ap (ends_first a.ended) end) ∙ sym (ap (λ z. not z || ends_first a.ended b.ended) lower)
+    ∙ sym (ap (λ z. operations_in_order a.ended b.ended z b.operation) u.writes ∙ ap (operations_in_order a.ended b.ended (Updates d)) w.writes) ∙ t
+
+ordered_by : (es : List Event) → are_ordered es ≡ true → IsOrdered es
+ordered_by es h =
+    let p = and_parts (all_take_turns es) (are_numbered [] es && end_in_order (calls_of es)) h in
+    let q = and_parts (are_numbered [] es) (end_in_order (calls_of es)) p.1 in
+    record { well_formed = well_formed_by es p.0; numbered = numbered_by [] es q.0; in_order = in_order_by (calls_of es) q.1 }
+
+-- two writers of one component, whose updates overlap
+
+-- beside both updates a view shows the first, and after them a view shows the second
+abbrev versions_in_order : List Event
+versions_in_order =
+    BeginUpdate 0 (entry 0 1 7) ∷ BeginUpdate 1 (entry 0 2 8) ∷ BeginView 2 ∷ EndView 2 (entry 0 1 7 ∷ []) ∷
+    EndUpdate 0 ∷ EndUpdate 1 ∷ BeginView 2 ∷ EndView 2 (entry 0 2 8 ∷ []) ∷ []
+
+-- beside both updates a view shows the second, and a later view the first
+abbrev versions_back : List Event
+versions_back =
+    BeginUpdate 0 (entry 0 1 7) ∷ BeginUpdate 1 (entry 0 2 8) ∷ BeginView 2 ∷ EndView 2 (entry 0 2 8 ∷ []) ∷
+    BeginView 2 ∷ EndView 2 (entry 0 1 7 ∷ []) ∷ EndUpdate 0 ∷ EndUpdate 1 ∷ []
+
+-- after both updates a view shows the first
+abbrev version_lost : List Event
+version_lost =
+    BeginUpdate 0 (entry 0 1 7) ∷ BeginUpdate 1 (entry 0 2 8) ∷ EndUpdate 0 ∷ EndUpdate 1 ∷ BeginView 2 ∷ EndView 2 (entry 0 1 7 ∷ []) ∷ []
+
+in_order : IsWorkedInOrder versions_in_order true true true
+unfolding local_faults faults stale_views calls_of
+in_order = by_counts_in_order versions_in_order (ordered_by versions_in_order refl) refl
+
+back : IsWorkedInOrder versions_back true false false
+unfolding local_faults faults stale_views calls_of
+back = by_counts_in_order versions_back (ordered_by versions_back refl) refl
+
+lost : IsWorkedInOrder version_lost false true false
+unfolding local_faults faults stale_views calls_of
+lost = by_counts_in_order version_lost (ordered_by version_lost refl) refl
