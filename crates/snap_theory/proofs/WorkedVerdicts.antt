@@ -64,6 +64,9 @@ byte_event (BeginView p) h = tt
 byte_event (EndUpdate p) h = tt
 byte_event (EndView p es) h = λ k d l. ltb-true _ component_count (AllPass-from_list_all is_byte es h k d l)
 
+pub bytes_by : (es : List Event) → list_all has_bytes es ≡ true → HasByteComponents es
+bytes_by es h = λ k d l. byte_event _ (AllPass-from_list_all has_bytes es h k d l)
+
 none : {X : Type 0} (xs : List X) → length xs ≡ 0 → xs ≡ []
 none [] e = refl
 none (x ∷ xs) e = absurd (omega (arith, e))
@@ -91,7 +94,7 @@ by_counts_in_order es ordered bytes = record {
     calls = calls_of es
 
     components : HasByteComponents es
-    components = λ k d l. byte_event _ (AllPass-from_list_all has_bytes es bytes k d l)
+    components = bytes_by es bytes
 
     local : (local_faults es == 0) ≡ true → HasNoLocalFault calls
     local t = record { integrity = none _ (omega (arith, eqb-true (local_faults es) 0 t)); proximity = none _ (omega (arith, eqb-true (local_faults es) 0 t)) }

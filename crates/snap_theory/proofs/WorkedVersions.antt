@@ -1,18 +1,23 @@
 -- Worked histories with two writers of one component, by computation.
-use Rattle.std.proofs.Common.{◌≡◌, ℕ, suc, ◌<◌, Bool, true, false, cond, ◌&&◌, ◌||◌, not, List, [], ◌∷◌, ◌++◌, append_assoc, append-nil, Option, Some, None, refl, sym, ap, ◌∙◌, subst, inl, inr, arith}
+use Rattle.std.proofs.Common.{◌≡◌, ◌≢◌, ℕ, suc, ◌<◌, Bool, true, false, cond, ◌&&◌, ◌||◌, not, List, [], ◌∷◌, ◌++◌, append_assoc, append-nil, Option, Some, None, refl, sym, ap, ◌∙◌, subst, inl, inr, arith}
 use Rattle.std.specs.Prelude.{◌==◌, nat_lt, ⊤}
 use Rattle.std.specs.List.{list_all, count_by}
 use Rattle.std.proofs.lemmas.Bool.{false≢true, and_parts, and_from, eqb-true, eq-eqb, lt-ltb}
 use Rattle.snap_core.specs.declared.entry.Entry.{Entry}
 use Rattle.snap_core.specs.declared.event.Event.{Event}
 use Rattle.snap_core.specs.declared.event.Event.TheVariants.{BeginUpdate, BeginView, EndUpdate, EndView}
-use Rattle.snap_core.specs.Events.{process_of, IsBegin, Ends, TakeTurns, events_of, begins_update_of, IsWellFormed, IsNumbered}
-use Rattle.snap_core.specs.Calls.{Call, Operation, Updates, Views, calls_of, is_before}
+use Rattle.snap_core.specs.Events.{process_of, IsBegin, Ends, TakeTurns, events_of, begins_update_of, IsWellFormed, IsSingleWriter, IsNumbered}
+use Rattle.snap_core.specs.Calls.{Call, Operation, Updates, Views, calls_of, is_before, precedes, is_view, shown, call_numbered}
+use Rattle.snap_core.specs.Orders.{IsLegalOrder, IsAtomic, is_completed, is_update, last_written}
 use Rattle.snap_core.specs.Regular.{IsUpdateOf}
-use Rattle.snap_core.proofs.Lists.{In, In-from_Contains, In-from_filter}
+use Rattle.snap_core.proofs.Lists.{In, In-from_Contains, Contains-from_In, In-from_filter, Pairs, AllPairs-from_Pairs}
 use Rattle.snap_core.proofs.Worked.{entry}
 use Rattle.snap_theory.specs.Versions.{EndInOrder, IsOrdered}
-use Rattle.snap_theory.proofs.WorkedVerdicts.{IsWorkedInOrder, local_faults, faults, stale_views, by_counts_in_order}
+use Rattle.snap_theory.specs.Faults.{HasNoFault}
+use Rattle.snap_theory.proofs.Legal.{Stands}
+use Rattle.snap_theory.proofs.Orders.{All-from_In}
+use Rattle.snap_theory.proofs.OrderLaws.{atomic_in_order_exactly}
+use Rattle.snap_theory.proofs.WorkedVerdicts.{IsWorkedInOrder, local_faults, faults, stale_views, bytes_by, by_counts_in_order}
 
 -- a test of ordered histories
 
@@ -160,3 +165,86 @@ back = by_counts_in_order versions_back (ordered_by versions_back refl) refl
 lost : IsWorkedInOrder version_lost false true false
 unfolding local_faults faults stale_views calls_of
 lost = by_counts_in_order version_lost (ordered_by version_lost refl) refl
+
+-- the second of these updates belongs to another process, so they make no history with one writer
+two_processes_write : IsSingleWriter versions_in_order → ⊥
+two_processes_write s = absurd (omega (arith, s 0 1 (entry 0 1 7) (entry 0 2 8) (Contains-from_In versions_in_order _ (inl refl)) (Contains-from_In versions_in_order _ (inr (inl refl))) refl))
+
+-- neither update precedes the other
+the_updates_overlap : precedes (call_numbered (calls_of versions_in_order) 0) (call_numbered (calls_of versions_in_order) 1) ≡ false
+unfolding calls_of precedes
+the_updates_overlap = refl
+
+-- a legal order with the second update before the first one, and then the view of the first
+
+abbrev first_update : Call
+first_update = record { number = 0; process = 0; operation = Updates (entry 0 1 7); begun = 0; ended = Some 2 }
+
+abbrev second_update : Call
+second_update = record { number = 1; process = 1; operation = Updates (entry 0 2 8); begun = 1; ended = Some 3 }
+
+abbrev view_of_the_first : Call
+view_of_the_first = record { number = 2; process = 2; operation = Views (Some (entry 0 1 7 ∷ [])); begun = 4; ended = Some 5 }
+
+abbrev an_order_back : List Call
+an_order_back = second_update ∷ first_update ∷ view_of_the_first ∷ []
+
+stands : (c : Call) → In c an_order_back → Stands (calls_of version_lost) c
+unfolding calls_of is_completed is_update
+stands c (inl e) = subst (Stands (calls_of version_lost)) e (Contains-from_In (calls_of version_lost) second_update (inr (inl refl)), inl refl)
+stands c (inr (inl e)) = subst (Stands (calls_of version_lost)) e (Contains-from_In (calls_of version_lost) first_update (inl refl), inl refl)
+stands c (inr (inr (inl e))) = subst (Stands (calls_of version_lost)) e (Contains-from_In (calls_of version_lost) view_of_the_first (inr (inr (inl refl))), inl refl)
+stands c (inr (inr (inr i))) = absurd i
+
+has_all : (c : Call) → In c (calls_of version_lost) → In c an_order_back
+unfolding calls_of
+has_all c (inl e) = inr (inl e)
+has_all c (inr (inl e)) = inl e
+has_all c (inr (inr (inl e))) = inr (inr (inl e))
+has_all c (inr (inr (inr i))) = absurd i
+
+-- what holds of each two calls of the order
+of_pairs : (R : Call → Call → Type 0) → R second_update first_update → R second_update view_of_the_first → R first_update view_of_the_first → Pairs R an_order_back
+of_pairs R p q r = (of_second, (of_first, (λ c i. absurd i, tt)))
+  where
+    of_first : (c : Call) → In c (view_of_the_first ∷ []) → R first_update c
+    of_first c (inl e) = subst (R first_update) e r
+    of_first c (inr i) = absurd i
+
+    of_second : (c : Call) → In c (first_update ∷ view_of_the_first ∷ []) → R second_update c
+    of_second c (inl e) = subst (R second_update) e p
+    of_second c (inr (inl e)) = subst (R second_update) e q
+    of_second c (inr (inr i)) = absurd i
+
+shows_the_last : (before after : List Call) (r : Call) → an_order_back ≡ before ++ r ∷ after → is_view r ≡ true → (k : ℕ) → shown r k ≡ last_written k None before
+unfolding is_view shown
+shows_the_last [] after r s v k = let same : r ≡ second_update = cc in absurd (false≢true (ap (λ z. is_view z) (sym same) ∙ v))
+shows_the_last (x ∷ []) after r s v k = let same : r ≡ first_update = cc in absurd (false≢true (ap (λ z. is_view z) (sym same) ∙ v))
+shows_the_last (x ∷ y ∷ []) after r s v k =
+    let same : r ≡ view_of_the_first = cc in
+    let one : second_update ≡ x = cc in
+    let two : first_update ≡ y = cc in
+    ap (λ z. shown z k) same ∙ go (0 == k) ∙ ap (λ z. last_written k None (z ∷ first_update ∷ [])) one ∙ ap (λ z. last_written k None (x ∷ z ∷ [])) two
+  where
+    go : (b : Bool) → cond b (Some (entry 0 1 7)) None ≡ cond b (Some (entry 0 1 7)) (cond b (Some (entry 0 2 8)) None)
+    go true = refl
+    go false = refl
+shows_the_last (x ∷ y ∷ z ∷ []) after r s v k = absurd (cc)
+shows_the_last (x ∷ y ∷ z ∷ w ∷ before) after r s v k = absurd (cc)
+
+it_is_legal : IsLegalOrder (calls_of version_lost) an_order_back
+unfolding precedes
+it_is_legal = record {
+  only = All-from_In (Stands (calls_of version_lost)) an_order_back stands;
+  distinct = AllPairs-from_Pairs (λ a b. a ≢ b) an_order_back (of_pairs (λ a b. a ≢ b) (other second_update first_update (λ e. absurd (omega (arith, e)))) (other second_update view_of_the_first (λ e. absurd (omega (arith, e)))) (other first_update view_of_the_first (λ e. absurd (omega (arith, e)))));
+  completed = λ c i done. Contains-from_In an_order_back c (has_all c (In-from_Contains (calls_of version_lost) c i));
+  precedence = AllPairs-from_Pairs (λ a b. precedes b a ≡ false) an_order_back (of_pairs (λ a b. precedes b a ≡ false) refl refl refl);
+  latest = shows_the_last;
+}
+  where
+    other : (a b : Call) → a.number ≢ b.number → a ≢ b
+    other a b n e = n (ap (λ (z : Call). z.number) e)
+
+-- so the law is false of orders that let a lower number follow a higher one
+the_numbers_must_rise : ((es : List Event) → IsOrdered es → IsAtomic (calls_of es) → HasNoFault (calls_of es)) → ⊥
+the_numbers_must_rise law = absurd (false≢true (lost.atomic_exactly.1 ((atomic_in_order_exactly version_lost lost.ordered (bytes_by version_lost refl)).1 (law version_lost lost.ordered (an_order_back, it_is_legal)))))
