@@ -6,14 +6,14 @@ use Rattle.std.proofs.lemmas.Bool.{false≢true, and_parts, and_from, eqb-true, 
 use Rattle.snap_core.specs.declared.entry.Entry.{Entry}
 use Rattle.snap_core.specs.declared.event.Event.{Event}
 use Rattle.snap_core.specs.declared.event.Event.TheVariants.{BeginUpdate, BeginView, EndUpdate, EndView}
-use Rattle.snap_core.specs.Events.{process_of, IsBegin, Ends, TakeTurns, events_of, begins_update_of, IsWellFormed, IsSingleWriter, IsNumbered}
-use Rattle.snap_core.specs.Calls.{Call, Operation, Updates, Views, calls_of, is_before, precedes, is_view, shown, call_numbered}
+use Rattle.snap_core.specs.Events.{process_of, IsBegin, Ends, TakeTurns, events_of, begins_update_of, IsWellFormed, IsSingleWriter, IsNumbered, HasByteComponents}
+use Rattle.snap_core.specs.Calls.{Call, Operation, Updates, Views, calls_of, is_before, precedes, is_view, shown, shown_number, is_update_numbered, views_of, call_numbered}
 use Rattle.snap_core.specs.Orders.{IsLegalOrder, IsAtomic, is_completed, is_update, last_written}
-use Rattle.snap_core.specs.Regular.{IsUpdateOf}
+use Rattle.snap_core.specs.Regular.{IsViewOf, IsUpdateOf, IsRegular}
 use Rattle.snap_core.proofs.Lists.{In, In-from_Contains, Contains-from_In, In-from_filter, Pairs, AllPairs-from_Pairs}
 use Rattle.snap_core.proofs.Worked.{entry}
 use Rattle.snap_theory.specs.Versions.{EndInOrder, IsOrdered}
-use Rattle.snap_theory.specs.Faults.{HasNoFault}
+use Rattle.snap_theory.specs.Faults.{HasNoFault, HasNoLocalFault, integrity_fault, old_fault, early_fault, integrity_faults, proximity_faults}
 use Rattle.snap_theory.proofs.Legal.{Stands}
 use Rattle.snap_theory.proofs.Orders.{All-from_In}
 use Rattle.snap_theory.proofs.OrderLaws.{atomic_in_order_exactly}
@@ -248,3 +248,25 @@ it_is_legal = record {
 -- so the law is false of orders that let a lower number follow a higher one
 the_numbers_must_rise : ((es : List Event) → IsOrdered es → IsAtomic (calls_of es) → HasNoFault (calls_of es)) → ⊥
 the_numbers_must_rise law = absurd (false≢true (lost.atomic_exactly.1 ((atomic_in_order_exactly version_lost lost.ordered (bytes_by version_lost refl)).1 (law version_lost lost.ordered (an_order_back, it_is_legal)))))
+
+-- updates that begin in the order of their numbers, and end in the other order; between the ends a view shows neither
+
+abbrev ends_back : List Event
+ends_back = BeginUpdate 0 (entry 0 1 7) ∷ BeginUpdate 1 (entry 0 2 8) ∷ EndUpdate 1 ∷ BeginView 2 ∷ EndView 2 [] ∷ EndUpdate 0 ∷ []
+
+-- the update that it misses next is still open
+it_has_no_fault : HasNoLocalFault (calls_of ends_back)
+unfolding calls_of precedes is_view shown shown_number is_update_numbered integrity_fault old_fault early_fault views_of integrity_faults proximity_faults
+it_has_no_fault = record { integrity = refl; proximity = refl }
+
+it_is_not_regular : IsRegular (calls_of ends_back) → ⊥
+unfolding calls_of precedes is_view shown shown_number
+it_is_not_regular r =
+    let calls = calls_of ends_back in
+    let view : IsViewOf calls (call_numbered calls 2) = record { there = Contains-from_In calls _ (inr (inr (inl refl))); completed = refl } in
+    let update : IsUpdateOf calls (call_numbered calls 1) (entry 0 2 8) = record { there = Contains-from_In calls _ (inr (inl refl)); writes = refl } in
+    absurd (false≢true (sym (r.not_old (call_numbered calls 2) (call_numbered calls 1) (entry 0 2 8) view update (omega arith))))
+
+-- so the law is false of updates that end in another order
+the_ends_must_be_in_order : ((es : List Event) → IsWellFormed es → IsNumbered es → HasByteComponents es → HasNoLocalFault (calls_of es) → IsRegular (calls_of es)) → ⊥
+the_ends_must_be_in_order law = it_is_not_regular (law ends_back (well_formed_by ends_back refl) (numbered_by [] ends_back refl) (bytes_by ends_back refl) it_has_no_fault)
