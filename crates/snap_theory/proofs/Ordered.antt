@@ -1,5 +1,5 @@
 -- What the calls of an ordered history are known by.
-use Rattle.std.proofs.Common.{◌≡◌, ◌≢◌, ◌⊎◌, ℕ, zero, suc, ◌+◌, ◌-◌, ◌<◌, ◌≤◌, Bool, true, false, cond, List, [], ◌∷◌, ◌++◌, append_assoc, length, get_or, Option, Some, None, refl, sym, ap, ◌∙◌, subst, inl, inr, arith}
+use Rattle.std.proofs.Common.{◌≡◌, ◌≢◌, ℕ, zero, suc, ◌+◌, ◌-◌, ◌<◌, ◌≤◌, Bool, true, false, cond, List, [], ◌∷◌, ◌++◌, append_assoc, length, get_or, Option, Some, None, refl, sym, ap, ◌∙◌, subst, inl, inr, arith}
 use Rattle.std.specs.List.{Contains, count_by}
 use Rattle.std.proofs.lemmas.Bool.{false≢true, ltb-true, lt-ltb, eqb-true, cases_order}
 use Rattle.std.proofs.lemmas.List.{length-append, get_or_at}
@@ -7,11 +7,11 @@ use Rattle.snap_core.specs.declared.entry.Entry.{Entry}
 use Rattle.snap_core.specs.declared.event.Event.{Event}
 use Rattle.snap_core.specs.declared.event.Event.TheVariants.{BeginUpdate, BeginView, EndUpdate, EndView}
 use Rattle.snap_core.specs.Events.{process_of, IsBegin, Ends, begins_update_of, IsWellFormed, IsNumbered, IsHistory}
-use Rattle.snap_core.specs.Calls.{Call, Operation, Updates, Views, next_place, next_answer, answer_at, calls_from, calls_of, is_before, precedes}
+use Rattle.snap_core.specs.Calls.{Call, Updates, Views, next_place, next_answer, answer_at, calls_from, calls_of, is_before, precedes}
 use Rattle.snap_core.specs.Regular.{IsViewOf, IsUpdateOf}
 use Rattle.snap_core.proofs.Lists.{Pairs, Contains-from_In, count-cons}
 use Rattle.snap_core.proofs.Facts.{AreCalls, EarlierUpdate, Ended, precedes_to}
-use Rattle.snap_core.proofs.Begun.{Compared, alike, first, second, compare_splits, not_end, Next, nothing, found, next, ends_it, begins, begins-append, begin_one, operation_at, call_at, Begun, CallAt, numbers_rise, update_event, count_inside, call_there}
+use Rattle.snap_core.proofs.Begun.{Compared, alike, first, second, compare_splits, not_end, Next, nothing, found, next, ends_it, begins, begins-append, begin_one, operation_at, call_at, Begun, numbers_rise, update_event, count_inside, call_there}
 use Rattle.snap_core.proofs.Histories.{are_calls, begun_of, answered_part}
 use Rattle.snap_theory.specs.Versions.{EndInOrder, IsOrdered}
 
