@@ -93,12 +93,13 @@ def points_of(path):
 
 
 class Picture:
-    """A picture: its elements by their ids."""
+    """A picture: its elements by their names, which are no ids, so that two pictures can stand in one document."""
 
     def __init__(self, text):
         self.root = tree.fromstring(text)
-        self.all_ids = [it.get("id") for it in self.root.iter() if it.get("id")]
-        self.by = {it.get("id"): it for it in self.root.iter() if it.get("id")}
+        self.all_ids = [it.get("data-id") for it in self.root.iter() if it.get("data-id")]
+        self.by = {it.get("data-id"): it for it in self.root.iter() if it.get("data-id")}
+        self.document_ids = {it.get("id") for it in self.root.iter() if it.get("id")}
 
     def ids(self, front):
         return {name[len(front):] for name in self.by if name.startswith(front)}
@@ -123,7 +124,7 @@ class Picture:
         """All visible texts, each with its box."""
         for group in self.root.iter():
             for it in group.findall(SVG + "text"):
-                is_middle = group.get("id") in ("records", "places")
+                is_middle = group.get("data-id") in ("records", "places")
                 yield it.text, text_box(it, is_middle)
 
 

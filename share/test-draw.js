@@ -1,7 +1,7 @@
 // What test-draw.py asks of a page in a browser; its value is the answer.
 'use strict';
 (function () {
-  const view = document.getElementById('view'), run = document.getElementById('run'), panel = document.getElementById('panel');
+  const view = document.getElementById('view'), run = view.querySelector('svg'), panel = document.getElementById('panel');
   const all = function (parent, words) { return Array.from(parent.querySelectorAll(words)); };
   const texts = all(run, 'text').filter(function (it) { return it.getBoundingClientRect().width > 0; });
   const boxes = texts.map(function (it) { return it.getBBox(); });
@@ -27,12 +27,12 @@
   const read = all(document.body, ':not(script, svg *)').filter(function (it) { return hasText(it) && it.getClientRects().length > 0; });
   const pale = texts.filter(function (it) { return isPale(getComputedStyle(it).fill, 4.5); })
     .concat(read.filter(function (it) { return isPale(getComputedStyle(it).color, 4.5); }))
-    .concat(all(document, '.bar').filter(function (it) { return isPale(getComputedStyle(it).stroke, 3); })).map(function (it) { return it.id || it.className.baseVal || it.tagName; });
+    .concat(all(document, '.bar').filter(function (it) { return isPale(getComputedStyle(it).stroke, 3); })).map(function (it) { return it.dataset.id || it.className.baseVal || it.tagName; });
   const smallest = Math.min.apply(null, texts.map(function (it) { return parseFloat(getComputedStyle(it).fontSize) * run.getScreenCTM().a; }));
   const wide = function () { return run.getBoundingClientRect().width; };
   const press = function (key) { document.body.dispatchEvent(new KeyboardEvent('keydown', { key: key, bubbles: true, cancelable: true })); };
   const shown = {};
-  all(document, '.call').forEach(function (call) { call.focus(); shown[call.id] = panel.textContent; });
+  all(document, '.call').forEach(function (call) { call.focus(); shown[call.dataset.id] = panel.textContent; });
   document.activeElement.blur();
   const rights = all(document.body, ':not(#view *)').map(function (it) { return it.getBoundingClientRect().right; }).concat(document.documentElement.scrollWidth);
   press('0'); const fitted = wide(), isWhole = view.scrollWidth <= view.clientWidth && view.scrollHeight <= view.clientHeight;

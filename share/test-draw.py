@@ -31,6 +31,10 @@ TOP = pathlib.Path(__file__).resolve().parent.parent
 PICTURES, ASKED = TOP / "docs/pictures", TOP / "share/test-draw.js"
 # The widths and the schemes in which the page is opened, and how long the browser may take for an answer, in seconds.
 WIDTHS, SCHEMES, LONGEST = (400, 1400), ("light", "dark"), 60
+# What no one reads in a picture, and so may be pale: the ground, the lines of the lanes, the strip, and the pattern behind a fault.
+PALE = {"ground", "line", "all", "hatch-ground"}
+# The least contrast of everything else with the ground, from 1 to 21, as the guidelines for readable pages count it.
+CONTRAST = 3
 # The least size of a letter on the screen where the page opens.
 SMALLEST = 7.5
 # The most bytes that a page may have, for the longest history.
@@ -253,6 +257,7 @@ def try_example(count, program, browser, path, is_written):
     count.expect(picture_text.strip() in page, f"{name}: the page has another picture")
     try_picture(count, name, picture_text, history, report, explained(program, path))
     try_alone(count, name, page)
+    try_schemes(count, program, path, status, picture_text, page)
     try_text(count, program, path, status)
     calls = calls_of(history)
     if browser:
@@ -261,6 +266,46 @@ def try_example(count, program, browser, path, is_written):
         count.skip(f"{name}: the page in a browser, since chromium is not here")
     is_wide = try_kept(count, browser, name, picture_text, calls, is_written) > WIDEST
     return [name, try_witness(count, program, browser, path, is_written)] if is_wide else [name]
+
+
+def lightness(colour):
+    """How light a colour is, as the guidelines for readable pages count it."""
+    parts = [int(colour[at:at + 2], 16) / 255 for at in (1, 3, 5)]
+    red, green, blue = (it / 12.92 if it <= 0.03928 else ((it + 0.055) / 1.055) ** 2.4 for it in parts)
+    return 0.2126 * red + 0.7152 * green + 0.0722 * blue + 0.05
+
+
+def try_scheme(count, where, picture, scheme):
+    """The ground is light or dark, what is read stands out from it, and the only id names the scheme."""
+    ground = next(it.get("fill") for it in picture.root.iter() if it.get("class") == "ground")
+    count.same(lightness(ground) < 0.2, scheme == "dark", f"{where}: its ground is {ground}")
+    count.same(picture.document_ids, {f"snapjudge-{scheme}"}, f"{where}: its ids")
+    for it in picture.root.iter():
+        for colour in {it.get("fill"), it.get("stroke")} - {None, "none", ground}:
+            if colour.startswith("#") and not PALE & set(it.get("class", "").split()):
+                low, high = sorted(map(lightness, (ground, colour)))
+                count.expect(high / low >= CONTRAST, f"{where}: {it.get('class')} has {colour} on {ground}")
+
+
+def without_colours(text):
+    return re.sub("#[0-9a-f]{6}|snapjudge-(?:light|dark)", "", text)
+
+
+def try_schemes(count, program, path, status, picture_text, page):
+    """With --light and --dark a picture and a page are the same but for their colours, whatever the reader's system is."""
+    for scheme in SCHEMES:
+        where, word = f"{path.stem}, {scheme}", f"--{scheme}"
+        svg_status, text = draw(program, path, "--svg", word)
+        picture = picture_of(count, where, text)
+        count.same(svg_status, status, f"{where}: status")
+        count.same(without_colours(text), without_colours(picture_text), f"{where}: a picture with other shapes")
+        if picture:
+            try_scheme(count, where, picture, scheme)
+        asked_status, asked_page = draw(program, path, word)
+        count.same(asked_status, status, f"{where}: status of the page")
+        count.same(re.findall("color-scheme: ([a-z ]+)", asked_page), [scheme, "light"], f"{where}: the schemes of its page, on a screen and on paper")
+        count.same(asked_page.partition("</style>")[2], page.partition("</style>")[2], f"{where}: a page with another body")
+    count.same(draw(program, path, "--svg", "--light")[1], picture_text, f"{path.stem}: a picture is light if nothing is asked")
 
 
 def try_text(count, program, path, status):
@@ -289,6 +334,8 @@ def try_picture(count, name, text, history, report, said):
     faults, order = faults_of(report, calls)
     picture = picture_of(count, name, text)
     try_alone(count, name, text)
+    if picture:
+        count.same(picture.document_ids, {"snapjudge-light"}, f"{name}: ids, which two pictures of one document would share")
     if picture and try_calls(count, name, picture, calls, faults):
         try_overlap(count, name, picture, calls)
         try_faults(count, name, picture, faults, said)

@@ -2,16 +2,16 @@
 
 # What is changed in the picture of new-old-inversion, so that it is wrong.
 WRONG = {
-    "a call is left out": (r'<g class="call[^>]*id="call-3".*?</g>', ""),
-    "a call stands twice": (r'(<g class="call[^>]*id="call-2".*?</g>)', r"\1\1"),
-    "a call has another number": (r'id="call-3"', 'id="call-4"'),
-    "a bar ends at the next event": (r'(id="call-1".*?width=")\d+', r"\g<1>48"),
-    "a bar begins too early": (r'(id="call-3".*?<rect class="bar" x=")\d+', r"\g<1>100"),
-    "a bar lies in the lane of a neighbour": (r'(id="call-3".*?<rect[^>]*y=")\d+', r"\g<1>168"),
-    "the second call of a fault is not marked": (r'call view fault-read" id="call-3"', 'call view" id="call-3"'),
-    "a call of no fault is marked": (r'call update" id="call-1"', 'call update fault-read" id="call-1"'),
-    "a marked call has no tag": (r'(id="call-3".*?)<text class="tag".*?</text>', r"\1"),
-    "a call that ended is open": (r'call view fault-read" id="call-2"', 'call view pending fault-read" id="call-2"'),
+    "a call is left out": (r'<g class="call[^>]*data-id="call-3".*?</g>', ""),
+    "a call stands twice": (r'(<g class="call[^>]*data-id="call-2".*?</g>)', r"\1\1"),
+    "a call has another number": (r'data-id="call-3"', 'data-id="call-4"'),
+    "a bar ends at the next event": (r'(data-id="call-1".*?width=")\d+', r"\g<1>48"),
+    "a bar begins too early": (r'(data-id="call-3".*?<rect class="bar" x=")\d+', r"\g<1>100"),
+    "a bar lies in the lane of a neighbour": (r'(data-id="call-3".*?<rect[^>]*y=")\d+', r"\g<1>168"),
+    "the second call of a fault is not marked": (r'call view fault-read" data-id="call-3"', 'call view" data-id="call-3"'),
+    "a call of no fault is marked": (r'call update" data-id="call-1"', 'call update fault-read" data-id="call-1"'),
+    "a marked call has no tag": (r'(data-id="call-3".*?)<text class="tag".*?</text>', r"\1"),
+    "a call that ended is open": (r'call view fault-read" data-id="call-2"', 'call view pending fault-read" data-id="call-2"'),
     "a title has another entry": (r"view 0:1:7</title>", "view 0:1:8</title>"),
     "a call has other records": (r'data-records="3-4"', 'data-records="3-5"'),
     "a label covers another": (r'(<text class="label" x=")\d+(" y=")\d+(">3 view)', r"\g<1>136\g<2>163\3"),
@@ -19,16 +19,16 @@ WRONG = {
     "a fault has no sentence": (r'<g class="mark".*?</g>', ""),
     "a fault has another sentence": (r">read: view 2 shows more of component 0", ">read: view 2 shows more of component 1"),
     "a fault is not in the strip": (r'<path class="tick[^>]*/>', ""),
-    "an order is drawn of what has none": ("</svg>", '<text id="place-1" x="0" y="0">1</text></svg>'),
+    "an order is drawn of what has none": ("</svg>", '<text data-id="place-1" x="0" y="0">1</text></svg>'),
     "a font is loaded": ('<rect class="ground"', '<style>@import url(https://example.org/font.css);</style><rect class="ground"'),
 }
 
 # The same in the picture of atomic-run, which has an order.
 WRONG_ORDERS = {
-    "no ground is behind the labels": (r'<g id="backs".*?</g>', ""),
-    "no ground is behind one label": (r'(<g id="backs"[^>]*>)<rect[^>]*/>', r"\1"),
+    "no ground is behind the labels": (r'<g data-id="backs".*?</g>', ""),
+    "no ground is behind one label": (r'(<g data-id="backs"[^>]*>)<rect[^>]*/>', r"\1"),
     "no ground is behind one place": (r'<rect[^>]*/></g>\n<g class="call', '</g>\n<g class="call'),
-    "the ground behind a label covers a bar": (r'(<g id="backs".*?height=")13', r"\g<1>20"),
+    "the ground behind a label covers a bar": (r'(<g data-id="backs".*?height=")13', r"\g<1>20"),
     "a place is not in its bar": (r"L 248 235", "L 248 177"),
 }
 

@@ -13,6 +13,8 @@ mod version;
 
 use question::{Question, answer_to, chosen};
 use snap_core::Limit;
+use snap_draw::Scheme;
+use snap_explain::Entries;
 use std::alloc::Global;
 use version::VERSION;
 
@@ -109,20 +111,29 @@ pub extern "C" fn snapjudge_check_limit(
     answer_within(alloc, Some(Question::Report), text, events, report, length)
 }
 
-/// Explains a text as `snapjudge explain` does, or as `snapjudge explain --draw` if `drawn` is 1. Everything else is as in
-/// `snapjudge_check_limit`. The answer is 7 if `drawn` is neither 0 nor 1. Then nothing was written into `out`, and `length` is 0.
+/// Explains a text as `snapjudge explain` does if `form` is 0, and as `snapjudge explain --draw` if it is 1. If it is 2 or 3, the views of
+/// a fault are listed whole too, as by `--all`. Everything else is as in `snapjudge_check_limit`. The answer is 7 if `form` is more than 3.
+/// Then nothing was written into `out`, and `length` is 0.
 #[unsafe(no_mangle)]
 pub extern "C" fn snapjudge_explain(
     alloc: Global,
     text: &[u8],
     events: u32,
-    drawn: u32,
+    form: u32,
     out: &mut [u8],
     length: &mut usize,
 ) -> u32
-    ensures { IsAnsweredFor events (slice_get explanations drawn) text.now out.old out.new length.new result }
+    ensures { IsAnsweredFor events (slice_get explanations form) text.now out.old out.new length.new result }
 {
-    let asked = chosen(&[Question::Explanation, Question::ExplanationDrawn], drawn);
+    let asked = chosen(
+        &[
+            Question::Explanation(Entries::OfFault),
+            Question::ExplanationDrawn(Entries::OfFault),
+            Question::Explanation(Entries::Whole),
+            Question::ExplanationDrawn(Entries::Whole),
+        ],
+        form,
+    );
     answer_within(alloc, asked, text, events, out, length)
 }
 
@@ -144,7 +155,7 @@ pub extern "C" fn snapjudge_json(
 }
 
 /// Cuts a history down to a witness as `snapjudge shrink` does, or draws the witness as `snapjudge shrink --draw` does if `drawn` is
-/// 1. Everything else is as in `snapjudge_explain`.
+/// 1. The answer is 7 if it is more. Everything else is as in `snapjudge_explain`.
 #[unsafe(no_mangle)]
 pub extern "C" fn snapjudge_shrink(
     alloc: Global,
@@ -160,8 +171,9 @@ pub extern "C" fn snapjudge_shrink(
     answer_within(alloc, asked, text, events, out, length)
 }
 
-/// Draws a history as `snapjudge draw` does. It draws a page if `form` is 0, SVG if it is 1, and characters if it is 2. Everything
-/// else is as in `snapjudge_explain`.
+/// Draws a history as `snapjudge draw` does. It draws a page if `form` is 0, SVG if it is 1, and characters if it is 2. It draws a light
+/// page if `form` is 3, a dark one if it is 4, and dark SVG if it is 5. The answer is 7 if it is more. Everything else is as in
+/// `snapjudge_explain`.
 #[unsafe(no_mangle)]
 pub extern "C" fn snapjudge_draw(
     alloc: Global,
@@ -173,13 +185,23 @@ pub extern "C" fn snapjudge_draw(
 ) -> u32
     ensures { IsAnsweredFor events (slice_get pictures form) text.now out.old out.new length.new result }
 {
-    let asked = chosen(&[Question::Page, Question::Svg, Question::Lines], form);
+    let asked = chosen(
+        &[
+            Question::Page(None),
+            Question::Svg(Scheme::Light),
+            Question::Lines,
+            Question::Page(Some(Scheme::Light)),
+            Question::Page(Some(Scheme::Dark)),
+            Question::Svg(Scheme::Dark),
+        ],
+        form,
+    );
     answer_within(alloc, asked, text, events, out, length)
 }
 
 /// Counts what a history has shown, as `snapjudge stats` does: as lines if `form` is 0. If it is 1, as the object that
 /// `snapjudge stats --format json` writes of standard input. The answer is 0 if the text is a history, which is counted and not
-/// judged. Everything else is as in `snapjudge_explain`.
+/// judged. It is 7 if `form` is more than 1. Everything else is as in `snapjudge_explain`.
 #[unsafe(no_mangle)]
 pub extern "C" fn snapjudge_stats(
     alloc: Global,

@@ -8,6 +8,8 @@ ghost use Rattle.snap_c.specs.Questions.{IsAnswerTo};
 
 use snap_check::{Alone, RunFault, Status};
 use snap_core::{Counted, Limit};
+use snap_draw::Scheme;
+use snap_explain::Entries;
 use snap_runs::{
     Explained, Lines, Page, Svg, draw_input, draw_witness_input, explain_input, shrink_input,
     stats_input, tell_input,
@@ -20,20 +22,20 @@ use std::alloc::Global;
 pub(crate) enum Question<'n> {
     /// `check`
     Report,
-    /// `explain`
-    Explanation,
-    /// `explain --draw`
-    ExplanationDrawn,
+    /// `explain`, or `explain --all`
+    Explanation(Entries),
+    /// `explain --draw`, or `explain --all --draw`
+    ExplanationDrawn(Entries),
     /// `check --format json` of a file with this name
     Object(&'n [u8]),
     /// `shrink`
     Witness,
     /// `shrink --draw`
     WitnessDrawn,
-    /// `draw`
-    Page,
-    /// `draw --svg`
-    Svg,
+    /// `draw`, `draw --light`, or `draw --dark`
+    Page(Option<Scheme>),
+    /// `draw --svg`, or `draw --svg --dark`
+    Svg(Scheme),
     /// `draw --text`
     Lines,
     /// `stats`
@@ -75,13 +77,15 @@ pub(crate) fn answer_to(
     let reader = &mut reader;
     match question {
         Question::Report => Ok(judge_text(alloc, text, limit)?),
-        Question::Explanation => explain_input(&Alone, alloc, reader, limit),
-        Question::ExplanationDrawn => draw_input(&Alone, alloc, &Explained, reader, limit),
+        Question::Explanation(listed) => explain_input(&Alone, alloc, reader, listed, limit),
+        Question::ExplanationDrawn(listed) => {
+            draw_input(&Alone, alloc, &Explained { listed }, reader, limit)
+        }
         Question::Object(name) => told(alloc, name, reader, limit),
         Question::Witness => shrink_input(&Alone, alloc, reader, limit),
         Question::WitnessDrawn => draw_witness_input(&Alone, alloc, &Lines, reader, limit),
-        Question::Page => draw_input(&Alone, alloc, &Page, reader, limit),
-        Question::Svg => draw_input(&Alone, alloc, &Svg, reader, limit),
+        Question::Page(scheme) => draw_input(&Alone, alloc, &Page { scheme }, reader, limit),
+        Question::Svg(scheme) => draw_input(&Alone, alloc, &Svg { scheme }, reader, limit),
         Question::Lines => draw_input(&Alone, alloc, &Lines, reader, limit),
         Question::Counts => stats_input(&Alone, alloc, None, reader, limit),
         Question::CountsObject => stats_input(&Alone, alloc, Some("-"), reader, limit),

@@ -14,11 +14,13 @@ use crate::files::open_only;
 use crate::outlet::Outlet;
 use snap_check::{RunFault, Status};
 use snap_core::{Counted, Limit};
+use snap_draw::Scheme as Colours;
+use snap_explain::Entries;
 use snap_runs::{
     Explained, Lines, Page, Svg, draw_run, draw_witness_run, explain_run, record_seeded_rounds,
     record_seeded_rounds_stamped, shrink_run, stats_run,
 };
-use snap_words::Form;
+use snap_words::{Form, Scheme};
 use std::alloc::Global;
 use std::io::{Read, Write};
 use std::sync::Wait;
@@ -66,36 +68,73 @@ pub fn shrink<Rt: Threads + Sync>(
     code_of(ended, &writer.into_inner())
 }
 
-// Explains a reader's history, with a picture or without.
+// Explains a reader's history, with a picture or without, and lists these entries of the views of a fault.
 fn explain_from<Rt: Threads + Sync, R: Read, W: Write>(
     rt: &Rt,
     alloc: Global,
     reader: &mut Counted<R>,
     writer: &mut Counted<W>,
     drawn: bool,
+    listed: Entries,
     limit: Limit,
 ) -> Result<Status, RunFault>
-    ensures text { drawn ≡ false → WroteBy (IsExplained limit.events) (R.remaining (inner_of reader.old)) (W.contents (inner_of writer.old)) (W.contents (inner_of writer.new)) result }
+    ensures text { drawn ≡ false → WroteBy (IsExplained limit.events listed) (R.remaining (inner_of reader.old)) (W.contents (inner_of writer.old)) (W.contents (inner_of writer.new)) result }
 {
     if drawn {
-        draw_run(rt, alloc, &Explained, reader, writer, limit)
+        draw_run(rt, alloc, &Explained { listed }, reader, writer, limit)
     } else {
-        explain_run(rt, alloc, reader, writer, limit)
+        explain_run(rt, alloc, reader, writer, listed, limit)
     }
 }
 
-/// Explains the history in the only text, with a picture or without. It gives the exit status.
+// Which entries of the views of a fault are listed.
+fn entries_of(whole: bool) -> Entries
+    ensures whole { whole ≡ true → result ≡ Entries.Whole }
+    ensures of_fault { whole ≡ false → result ≡ Entries.OfFault }
+{
+    if whole {
+        Entries::Whole
+    } else {
+        Entries::OfFault
+    }
+}
+
+/// Explains the history in the only text, with a picture or without, and with all entries of the views of a fault or without. It gives
+/// the exit status.
 pub fn explain<Rt: Threads + Sync>(
     rt: &Rt,
     host: &HostRuntime,
     file: &Option<Vec<u8>>,
     drawn: bool,
+    whole: bool,
     limit: Limit,
 ) -> Result<u8, Failure> {
     let mut reader = Counted::new(open_only(host, file)?);
     let mut writer = Counted::new(Outlet::new(host.stdout()));
-    let ended = explain_from(rt, host.alloc(), &mut reader, &mut writer, drawn, limit);
+    let listed = entries_of(whole);
+    let ended = explain_from(
+        rt,
+        host.alloc(),
+        &mut reader,
+        &mut writer,
+        drawn,
+        listed,
+        limit,
+    );
     code_of(ended, &writer.into_inner())
+}
+
+// The colours that are asked for, or nothing if they are left to the reader's system.
+fn colours_of(scheme: Scheme) -> Option<Colours>
+    ensures reader { scheme ≡ Scheme.Reader → result ≡ None }
+    ensures light { scheme ≡ Scheme.Light → result ≡ Some Colours.Light }
+    ensures dark { scheme ≡ Scheme.Dark → result ≡ Some Colours.Dark }
+{
+    match scheme {
+        Scheme::Reader => None,
+        Scheme::Light => Some(Colours::Light),
+        Scheme::Dark => Some(Colours::Dark),
+    }
 }
 
 /// Draws the history in the only text. It gives the exit status.
@@ -110,8 +149,18 @@ pub fn draw<Rt: Threads + Sync>(
     let mut reader = Counted::new(open_only(host, file)?);
     let mut writer = Counted::new(Outlet::new(host.stdout()));
     let ended = match form {
-        Form::Page => draw_run(rt, alloc, &Page, &mut reader, &mut writer, limit),
-        Form::Svg => draw_run(rt, alloc, &Svg, &mut reader, &mut writer, limit),
+        Form::Page(scheme) => {
+            let page = Page {
+                scheme: colours_of(scheme),
+            };
+            draw_run(rt, alloc, &page, &mut reader, &mut writer, limit)
+        }
+        Form::Svg(scheme) => {
+            let svg = Svg {
+                scheme: colours_of(scheme).unwrap_or(Colours::Light),
+            };
+            draw_run(rt, alloc, &svg, &mut reader, &mut writer, limit)
+        }
         Form::Lines => draw_run(rt, alloc, &Lines, &mut reader, &mut writer, limit),
     };
     code_of(ended, &writer.into_inner())

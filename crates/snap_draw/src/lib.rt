@@ -17,5 +17,5 @@ pub use lines::{explained_lines, text_lines};
 pub use marks::{Kind, Mark};
 pub use picture::Picture;
 pub use shapes::{Bar, Shapes, shapes_of};
-pub use svg::{page_of, svg_of};
+pub use svg::{Scheme, page_of, svg_of};
 pub use window::{LINE_CALLS, PAGE_CALLS};

@@ -8,10 +8,11 @@ use crate::words::{label_of, place_at, record_at};
 use backs::put_backs;
 use calls::{next_of, put_calls};
 use look::{GROUND, WHOLE};
-use page::{HEAD, TAIL};
+use page::{HEAD, STYLE, TAIL, put_colours};
 use parts::{put_escaped, put_parts};
 use points::{points_of, put_line, put_places};
 use scale::{LANE, MARGIN, TOP, WIDE, across, right_of, scaled, x_of, y_of};
+use scheme::put_coloured;
 use std::alloc::{AllocError, Global};
 use strip::put_strip;
 
@@ -22,7 +23,10 @@ mod page;
 mod parts;
 mod points;
 mod scale;
+mod scheme;
 mod strip;
+
+pub use scheme::Scheme;
 
 // The last labels make a picture wider than its columns by at most this much.
 const LABEL_ROOM: usize = 240;
@@ -82,7 +86,7 @@ fn put_size(out: &mut Vec<u8>, picture: &Picture<'_, '_>, width: u64) -> Result<
         out,
         &[
             (
-                b"<svg id=\"run\" xmlns=\"http://www.w3.org/2000/svg\" viewBox=\"0 0 ",
+                b"<svg data-id=\"run\" xmlns=\"http://www.w3.org/2000/svg\" viewBox=\"0 0 ",
                 width,
             ),
             (b" ", height),
@@ -102,7 +106,7 @@ fn put_head(out: &mut Vec<u8>, picture: &Picture<'_, '_>, width: usize) -> Resul
     put_size(out, picture, width as u64)?;
     out.extend_from_slice(GROUND)?;
     out.extend_from_slice(
-        b"<text id=\"verdict\" x=\"8\" y=\"20\" font-size=\"13\" font-weight=\"bold\">",
+        b"<text data-id=\"verdict\" x=\"8\" y=\"20\" font-size=\"13\" font-weight=\"bold\">",
     )?;
     put_escaped(out, front_of(verdict_of(picture.said)))?;
     out.extend_from_slice(b"</text>\n")
@@ -110,7 +114,7 @@ fn put_head(out: &mut Vec<u8>, picture: &Picture<'_, '_>, width: usize) -> Resul
 
 // Adds the number of the record of each event above its column.
 fn put_records(out: &mut Vec<u8>, shapes: &Shapes, records: &[u32]) -> Result<(), AllocError> {
-    out.extend_from_slice(b"<g id=\"records\" fill=\"#59636e\" text-anchor=\"middle\">")?;
+    out.extend_from_slice(b"<g data-id=\"records\" fill=\"#59636e\" text-anchor=\"middle\">")?;
     for column in 0..shapes.columns {
         if let Some(place) = place_at(&shapes.bars, column) {
             let record = record_at(records, place);
@@ -130,7 +134,7 @@ fn put_lanes(out: &mut Vec<u8>, shapes: &Shapes) -> Result<(), AllocError> {
         put_parts(
             out,
             &[
-                (b"<g class=\"lane\" id=\"lane-", process),
+                (b"<g class=\"lane\" data-id=\"lane-", process),
                 (
                     b"\"><text class=\"name\" font-weight=\"bold\" x=\"8\" y=\"",
                     y_of(lane, 31),
@@ -147,7 +151,7 @@ fn put_lanes(out: &mut Vec<u8>, shapes: &Shapes) -> Result<(), AllocError> {
 
 // Adds a sentence at a height.
 fn put_mark(out: &mut Vec<u8>, line: &[u8], y: u64) -> Result<(), AllocError> {
-    out.extend_from_slice(b"<g class=\"mark\" id=\"fault-")?;
+    out.extend_from_slice(b"<g class=\"mark\" data-id=\"fault-")?;
     put_escaped(out, front_of(line))?;
     out.extend_from_slice(b"\" fill=\"#b3261e\" font-weight=\"bold\"><title>")?;
     put_escaped(out, line)?;
@@ -195,39 +199,68 @@ fn put_run(
     put_places(out, &points)
 }
 
-fn put_svg(alloc: Global, out: &mut Vec<u8>, picture: &Picture<'_, '_>) -> Result<(), AllocError>
-    ensures { OnOk result (EndsSvg out.new.items) }
-{
-    let width = width_of(alloc, picture)?;
-    put_ground(out, picture, width)?;
-    put_run(alloc, out, picture, width)?;
-    out.extend_from_slice(b"</svg>\n")
-}
-
-/// The picture as SVG. The error is want of memory.
-pub fn svg_of(alloc: Global, picture: &Picture<'_, '_>) -> Result<Vec<u8>, AllocError>
-    ensures { IfOk result (λ text. EndsSvg text.items) }
-{
+// A light picture up to its end.
+fn light_of(alloc: Global, picture: &Picture<'_, '_>) -> Result<Vec<u8>, AllocError> {
     let mut out = Vec::new(alloc);
-    put_svg(alloc, &mut out, picture)?;
+    let width = width_of(alloc, picture)?;
+    put_ground(&mut out, picture, width)?;
+    put_run(alloc, &mut out, picture, width)?;
     Ok(out)
 }
 
-// Adds the page around the picture, and the picture.
-fn put_page(alloc: Global, out: &mut Vec<u8>, picture: &Picture<'_, '_>) -> Result<(), AllocError>
+fn put_svg(
+    alloc: Global,
+    out: &mut Vec<u8>,
+    picture: &Picture<'_, '_>,
+    scheme: Scheme,
+) -> Result<(), AllocError>
+    ensures { OnOk result (EndsSvg out.new.items) }
+{
+    let light = light_of(alloc, picture)?;
+    put_coloured(out, &light, scheme)?;
+    out.extend_from_slice(b"</svg>\n")
+}
+
+/// The picture as SVG, in the colours of a scheme. The error is want of memory.
+pub fn svg_of(
+    alloc: Global,
+    picture: &Picture<'_, '_>,
+    scheme: Scheme,
+) -> Result<Vec<u8>, AllocError>
+    ensures { IfOk result (λ text. EndsSvg text.items) }
+{
+    let mut out = Vec::new(alloc);
+    put_svg(alloc, &mut out, picture, scheme)?;
+    Ok(out)
+}
+
+// Adds the page around the picture, and the picture. The style of the page gives the picture its colours.
+fn put_page(
+    alloc: Global,
+    out: &mut Vec<u8>,
+    picture: &Picture<'_, '_>,
+    scheme: Option<Scheme>,
+) -> Result<(), AllocError>
     ensures { OnOk result (EndsPage out.new.items) }
 {
     out.extend_from_slice(HEAD)?;
-    put_svg(alloc, out, picture)?;
+    put_colours(out, scheme)?;
+    out.extend_from_slice(STYLE)?;
+    put_svg(alloc, out, picture, Scheme::Light)?;
     out.extend_from_slice(TAIL)?;
     out.extend_from_slice(b"</html>\n")
 }
 
-/// The picture on a page, which a browser shows without any other file. The error is want of memory.
-pub fn page_of(alloc: Global, picture: &Picture<'_, '_>) -> Result<Vec<u8>, AllocError>
+/// The picture on a page, which a browser shows without any other file. The page has the colours of a scheme, or if none is given those
+/// of the reader's system. The error is want of memory.
+pub fn page_of(
+    alloc: Global,
+    picture: &Picture<'_, '_>,
+    scheme: Option<Scheme>,
+) -> Result<Vec<u8>, AllocError>
     ensures { IfOk result (λ text. EndsPage text.items) }
 {
     let mut out = Vec::new(alloc);
-    put_page(alloc, &mut out, picture)?;
+    put_page(alloc, &mut out, picture, scheme)?;
     Ok(out)
 }

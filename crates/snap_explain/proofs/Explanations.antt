@@ -10,24 +10,25 @@ use Rattle.snap_theory.specs.Levels.{printed_order}
 use Rattle.snap_order.proofs.PrintedNumbers.{calls_of_order}
 use Rattle.snap_report.specs.Orders.{calls_numbered}
 use Rattle.snap_report.specs.Reports.{has_no_fault, has_no_local_fault}
+use Rattle.snap_explain.specs.declared.view.Entries.{Entries}
 use Rattle.snap_explain.specs.Calls.{call_text}
 use Rattle.snap_explain.specs.Explanations.{IsExplanation, explanation, order_text, verdict_text}
 use Rattle.snap_explain.specs.Faults.{faults_text}
 
-pub order_explains : (records : List ℕ) (es : List Event) (t : Tally) (numbers text : List ℕ) → t ≡ tally_of (calls_of es) (views_of (calls_of es)) → true ≡ has_no_fault t →
+pub order_explains : (listed : Entries) (records : List ℕ) (es : List Event) (t : Tally) (numbers text : List ℕ) → t ≡ tally_of (calls_of es) (views_of (calls_of es)) → true ≡ has_no_fault t →
     numbers ≡ map (λ c. c.number) (printed_order (calls_of es)) →
-    text ≡ codes "atomic: in this order each view shows the latest updates before it\n" ++ flat_map (call_text records) (calls_numbered (calls_of es) numbers) → IsExplanation records (calls_of es) text
+    text ≡ codes "atomic: in this order each view shows the latest updates before it\n" ++ flat_map (call_text records) (calls_numbered (calls_of es) numbers) → IsExplanation listed records (calls_of es) text
 unfolding explanation
-order_explains records es t numbers text whole atomic same e =
+order_explains listed records es t numbers text whole atomic same e =
     e
     ∙ ap (order_text records) (calls_of_order es numbers same)
-    ∙ ap (λ b. if b then order_text records (printed_order (calls_of es)) else verdict_text (has_no_local_fault t) ++ faults_text records (calls_of es) t) atomic
-    ∙ ap (explanation records (calls_of es)) whole
+    ∙ ap (λ b. if b then order_text records (printed_order (calls_of es)) else verdict_text (has_no_local_fault t) ++ faults_text listed records (calls_of es) t) atomic
+    ∙ ap (explanation listed records (calls_of es)) whole
 
-pub faults_explain : (records : List ℕ) (es : List Event) (t : Tally) (text : List ℕ) → t ≡ tally_of (calls_of es) (views_of (calls_of es)) → false ≡ has_no_fault t →
-    text ≡ verdict_text (has_no_local_fault t) ++ faults_text records (calls_of es) t → IsExplanation records (calls_of es) text
+pub faults_explain : (listed : Entries) (records : List ℕ) (es : List Event) (t : Tally) (text : List ℕ) → t ≡ tally_of (calls_of es) (views_of (calls_of es)) → false ≡ has_no_fault t →
+    text ≡ verdict_text (has_no_local_fault t) ++ faults_text listed records (calls_of es) t → IsExplanation listed records (calls_of es) text
 unfolding explanation
-faults_explain records es t text whole faulty e =
+faults_explain listed records es t text whole faulty e =
     e
-    ∙ ap (λ b. if b then order_text records (printed_order (calls_of es)) else verdict_text (has_no_local_fault t) ++ faults_text records (calls_of es) t) faulty
-    ∙ ap (explanation records (calls_of es)) whole
+    ∙ ap (λ b. if b then order_text records (printed_order (calls_of es)) else verdict_text (has_no_local_fault t) ++ faults_text listed records (calls_of es) t) faulty
+    ∙ ap (explanation listed records (calls_of es)) whole

@@ -6,6 +6,7 @@ use Rattle.snap_conditions.specs.declared.tally.Tally.{Tally}
 use Rattle.snap_conditions.specs.Tally.{tally_of}
 use Rattle.snap_theory.specs.Levels.{printed_order}
 use Rattle.snap_report.specs.Reports.{has_no_fault, has_no_local_fault}
+use Rattle.snap_explain.specs.declared.view.Entries.{Entries}
 use Rattle.snap_explain.specs.Calls.{call_text}
 use Rattle.snap_explain.specs.Faults.{faults_text}
 
@@ -17,10 +18,10 @@ abbrev pub verdict_text : Bool → List ℕ
 verdict_text regular = if regular then codes "regular, and not atomic\n" else codes "not regular\n"
 
 -- the order of an atomic history, and otherwise the verdict and the first fault of each kind. It is made from the calls, the records
--- of the events, and the tally of all completed views
-unfoldable pub explanation : List ℕ → List Call → Tally → List ℕ
-explanation records calls t = if has_no_fault t then order_text records (printed_order calls) else verdict_text (has_no_local_fault t) ++ faults_text records calls t
+-- of the events, and the tally of all completed views, and lists these entries of the views of a fault
+unfoldable pub explanation : Entries → List ℕ → List Call → Tally → List ℕ
+explanation listed records calls t = if has_no_fault t then order_text records (printed_order calls) else verdict_text (has_no_local_fault t) ++ faults_text listed records calls t
 
 -- the text explains the history of these calls, whose events have these records
-abbrev pub IsExplanation : List ℕ → List Call → List ℕ → Type 0
-IsExplanation records calls text = text ≡ explanation records calls (tally_of calls (views_of calls))
+abbrev pub IsExplanation : Entries → List ℕ → List Call → List ℕ → Type 0
+IsExplanation listed records calls text = text ≡ explanation listed records calls (tally_of calls (views_of calls))

@@ -15,6 +15,7 @@ use Rattle.snap_theory.specs.FaultWitnesses.{Read, fault_updates}
 use Rattle.snap_theory.specs.Updates.{update_of}
 use Rattle.snap_report.specs.Lines.{call_word, entry_word, update_word}
 use Rattle.snap_witness.specs.Places.{side_number}
+use Rattle.snap_explain.specs.declared.view.Entries.{Entries}
 use Rattle.snap_explain.specs.Calls.{call_text}
 use Rattle.snap_explain.specs.Views.{numbers_text, view_text}
 
@@ -27,24 +28,24 @@ abbrev pub updates_text : List ℕ → List Call → List (ℕ × ℕ) → List 
 updates_text records calls updates = flat_map (λ u. update_text records calls u.0 u.1) updates
 
 -- the line of the view of a number, and the lines of the updates that show its fault
-unfoldable pub concerned_text : List ℕ → List Call → ℕ → List (ℕ × ℕ) → List ℕ
-concerned_text records calls view updates = view_text records updates (call_numbered calls view) ++ updates_text records calls updates
+unfoldable pub concerned_text : Entries → List ℕ → List Call → ℕ → List (ℕ × ℕ) → List ℕ
+concerned_text listed records calls view updates = view_text listed records updates (call_numbered calls view) ++ updates_text records calls updates
 
 -- a view shows an entry that no update wrote; the other call is the update of that number, if there is one
-abbrev pub integrity_text : List ℕ → List Call → IntegrityFault → List ℕ
-integrity_text records calls f =
+abbrev pub integrity_text : Entries → List ℕ → List Call → IntegrityFault → List ℕ
+integrity_text listed records calls f =
     codes "integrity: view " ++ call_word f.view ++ codes " shows " ++ entry_word f.entry ++ codes ", which no update wrote\n"
-    ++ concerned_text records calls f.view ((f.entry.component, f.entry.number) ∷ [])
+    ++ concerned_text listed records calls f.view ((f.entry.component, f.entry.number) ∷ [])
 
 abbrev pub side_text : ℕ → ℕ → Side → List ℕ
 side_text k n Old = codes ", though update " ++ update_word k (suc n) ++ codes " had ended before the view began\n"
 side_text k n Early = codes ", though that update began after the view had ended\n"
 
 -- a view shows an update that is too old or too new; the other call is the update that it misses, or that it shows
-abbrev pub proximity_text : List ℕ → List Call → ProximityFault → List ℕ
-proximity_text records calls f =
+abbrev pub proximity_text : Entries → List ℕ → List Call → ProximityFault → List ℕ
+proximity_text listed records calls f =
     codes "proximity: view " ++ call_word f.view ++ codes " shows " ++ update_word f.component f.number ++ side_text f.component f.number f.side
-    ++ concerned_text records calls f.view ((f.component, side_number f.side f.number) ∷ [])
+    ++ concerned_text listed records calls f.view ((f.component, side_number f.side f.number) ∷ [])
 
 -- why a view that shows more of some component than another should show no less of any
 abbrev pub against_text : Call → Call → List ℕ
@@ -70,14 +71,14 @@ abbrev pub compared_text : List Call → List (ℕ × ℕ) → ReadFault → Lis
 compared_text calls updates f = codes "  " ++ view_numbers calls updates f.view ++ codes "; " ++ view_numbers calls updates f.other ++ codes "\n"
 
 -- two views disagree, and some updates show that
-abbrev pub disagreement_text : List ℕ → List Call → List (ℕ × ℕ) → ReadFault → List ℕ
-disagreement_text records calls updates f =
-    read_sentence calls f ++ compared_text calls updates f ++ view_text records updates (call_numbered calls f.view)
-    ++ concerned_text records calls f.other updates
+abbrev pub disagreement_text : Entries → List ℕ → List Call → List (ℕ × ℕ) → ReadFault → List ℕ
+disagreement_text listed records calls updates f =
+    read_sentence calls f ++ compared_text calls updates f ++ view_text listed records updates (call_numbered calls f.view)
+    ++ concerned_text listed records calls f.other updates
 
 -- two views disagree: what each shows where they differ, both views, and the updates that they show
-abbrev pub read_text : List ℕ → List Call → ReadFault → List ℕ
-read_text records calls f = disagreement_text records calls (updates_between calls f) f
+abbrev pub read_text : Entries → List ℕ → List Call → ReadFault → List ℕ
+read_text listed records calls f = disagreement_text listed records calls (updates_between calls f) f
 
 abbrev pub write_sentence : WriteFault → List ℕ
 write_sentence f =
@@ -85,15 +86,15 @@ write_sentence f =
     ++ codes ", and misses update " ++ update_word f.missed_component f.missed_number ++ codes ", which had ended before that one began\n"
 
 -- a view shows an update and misses one that preceded it
-abbrev pub write_text : List ℕ → List Call → WriteFault → List ℕ
-write_text records calls f =
+abbrev pub write_text : Entries → List ℕ → List Call → WriteFault → List ℕ
+write_text listed records calls f =
     write_sentence f
-    ++ concerned_text records calls f.view ((f.missed_component, f.missed_number) ∷ (f.shown_component, f.shown_number) ∷ [])
+    ++ concerned_text listed records calls f.view ((f.missed_component, f.missed_number) ∷ (f.shown_component, f.shown_number) ∷ [])
 
 -- the first fault of each kind, if there is one
-abbrev pub faults_text : List ℕ → List Call → Tally → List ℕ
-faults_text records calls t =
-    option_map_or (integrity_text records calls) t.integrity.first []
-    ++ option_map_or (proximity_text records calls) t.proximity.first []
-    ++ option_map_or (read_text records calls) t.read.first []
-    ++ option_map_or (write_text records calls) t.write.first []
+abbrev pub faults_text : Entries → List ℕ → List Call → Tally → List ℕ
+faults_text listed records calls t =
+    option_map_or (integrity_text listed records calls) t.integrity.first []
+    ++ option_map_or (proximity_text listed records calls) t.proximity.first []
+    ++ option_map_or (read_text listed records calls) t.read.first []
+    ++ option_map_or (write_text listed records calls) t.write.first []

@@ -4,6 +4,8 @@ use Rattle.std.specs.List.{count_by, flat_map, list_any}
 use Rattle.snap_core.specs.declared.entry.Entry.{Entry}
 use Rattle.snap_core.specs.Calls.{Call, entries_of}
 use Rattle.snap_report.specs.Lines.{entry_word, update_word}
+use Rattle.snap_explain.specs.declared.view.Entries.{Entries}
+use Rattle.snap_explain.specs.declared.view.Entries.TheVariants.{OfFault, Whole}
 use Rattle.snap_explain.specs.declared.view.TheConstants.{MOST_ENTRIES}
 use Rattle.snap_explain.specs.Calls.{call_begin, entries_text}
 
@@ -24,12 +26,17 @@ unfoldable pub some_text : List (ℕ × ℕ) → List Entry → List ℕ
 some_text updates es = flat_map (named_text updates) es ++ codes " and " ++ decimal (other_count updates es) ++ codes " more entries"
 
 -- all entries if they are few, and otherwise some
-unfoldable pub shown_text : List (ℕ × ℕ) → List Entry → List ℕ
-shown_text updates es = if nat_lt MOST_ENTRIES (length es) then some_text updates es else entries_text es
+unfoldable pub of_fault_text : List (ℕ × ℕ) → List Entry → List ℕ
+of_fault_text updates es = if nat_lt MOST_ENTRIES (length es) then some_text updates es else entries_text es
+
+-- the entries that are listed of a view whose fault these updates show
+abbrev pub shown_text : Entries → List (ℕ × ℕ) → List Entry → List ℕ
+shown_text OfFault updates es = of_fault_text updates es
+shown_text Whole updates es = entries_text es
 
 -- call A of process P, records B and E: view .., for a view of a fault that these updates show
-unfoldable pub view_text : List ℕ → List (ℕ × ℕ) → Call → List ℕ
-view_text records updates c = call_begin records c ++ codes "view" ++ shown_text updates (entries_of c.operation) ++ codes "\n"
+unfoldable pub view_text : Entries → List ℕ → List (ℕ × ℕ) → Call → List ℕ
+view_text listed records updates c = call_begin records c ++ codes "view" ++ shown_text listed updates (entries_of c.operation) ++ codes "\n"
 
 -- the number that is shown of the component of an update, as 0:1
 abbrev pub number_word : (ℕ → ℕ) → ℕ × ℕ → List ℕ

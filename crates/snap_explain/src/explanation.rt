@@ -12,6 +12,7 @@ ghost use Rattle.snap_explain.specs.Explanations.{IsExplanation, verdict_text};
 
 use crate::call::put_call_line;
 use crate::faults::put_faults;
+use crate::view::Entries;
 use snap_conditions::{Tally, is_regular};
 use snap_index::Index;
 use std::alloc::{AllocError, Global};
@@ -46,7 +47,7 @@ fn put_calls(
 
 /// The explanation of a history: an order of its calls if it is atomic, and otherwise a sentence for the first fault of each kind.
 /// After a sentence are the calls concerned, a line each. A line has the call's number, its process, the records of its begin and its
-/// end, and what it wrote or showed.
+/// end, and what it wrote or showed: of a view of a fault the entries that are `listed`.
 ///
 /// It is made from the tally of all completed views, the number of the record of each event, and the numbers of the printed order.
 /// That order is given exactly if the tally has no fault.
@@ -56,12 +57,13 @@ pub fn explain(
     tally: &Tally,
     records: &[u32],
     order: Option<&[u32]>,
+    listed: Entries,
 ) -> Result<Vec<u8>, AllocError>
     requires tally { tally.now ≡ tally_of (calls_of index.now) (views_of (calls_of index.now)) }
     requires each { length records.now ≡ length index.now }
     requires given { is_some order ≡ has_no_fault tally.now }
     requires order { ForSome order (λ numbers. numbers.now ≡ map (λ c. c.number) (printed_order (calls_of index.now))) }
-    ensures { IfOk result (λ text. IsExplanation records.now (calls_of index.now) text.items) }
+    ensures { IfOk result (λ text. IsExplanation listed records.now (calls_of index.now) text.items) }
 {
     let mut out = Vec::new(alloc);
     match order {
@@ -73,7 +75,7 @@ pub fn explain(
         }
         None => {
             put_verdict(&mut out, tally)?;
-            put_faults(&mut out, index, records, tally)?
+            put_faults(&mut out, index, records, listed, tally)?
         }
     }
     Ok(out)

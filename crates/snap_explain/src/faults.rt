@@ -5,10 +5,11 @@ ghost use Rattle.snap_core.specs.Calls.{Call, call_numbered, calls_of, views_of}
 ghost use Rattle.snap_core.specs.Events.{event_cap};
 ghost use Rattle.snap_conditions.specs.Tally.{tally_of};
 ghost use Rattle.snap_witness.specs.Places.{AreReadAt, IsViewAt, side_number as spec_side_number};
+ghost use Rattle.snap_explain.specs.declared.view.Entries.{Entries};
 ghost use Rattle.snap_explain.specs.Faults.{against_text, compared_text, concerned_text, disagreement_text, faults_text, integrity_text, proximity_text, read_sentence, read_text, side_text, write_sentence, write_text};
 
 use crate::call::put_updates;
-use crate::view::{put_numbers, put_view_line};
+use crate::view::{Entries, put_numbers, put_view_line};
 use snap_conditions::{IntegrityFault, ProximityFault, ReadFault, Side, Tally, WriteFault};
 use snap_index::Index;
 use snap_report::{put_call, put_entry, put_number, put_update};
@@ -17,15 +18,21 @@ use std::alloc::AllocError;
 
 // A fault that is explained, if its views are completed views of the history.
 trait Explained: Copy {
-    ghost text: { List ℕ → List Call → Self → List ℕ };
+    ghost text: { Entries → List ℕ → List Call → Self → List ℕ };
 
     ghost is_named: { List Call → Self → Type 0 };
 
     // Adds its sentence and the lines of its calls.
-    fn put(&self, out: &mut Vec<u8>, index: &Index<'_>, records: &[u32]) -> Result<(), AllocError>
+    fn put(
+        &self,
+        out: &mut Vec<u8>,
+        index: &Index<'_>,
+        records: &[u32],
+        listed: Entries,
+    ) -> Result<(), AllocError>
         requires each { length records.now ≡ length index.now }
         requires named { is_named (calls_of index.now) self.now }
-        ensures { OnOk result (out.new.items ≡ out.old.items ++ text records.now (calls_of index.now) self.now) };
+        ensures { OnOk result (out.new.items ≡ out.old.items ++ text listed records.now (calls_of index.now) self.now) };
 }
 
 // Adds the line of a view, and the lines of the updates that show its fault.
@@ -33,14 +40,15 @@ fn put_concerned(
     out: &mut Vec<u8>,
     index: &Index<'_>,
     records: &[u32],
+    listed: Entries,
     view: u32,
     updates: &[(u8, u32)],
 ) -> Result<(), AllocError>
     requires each { length records.now ≡ length index.now }
     requires named { IsViewAt (calls_of index.now) view }
-    ensures { OnOk result (out.new.items ≡ out.old.items ++ concerned_text records.now (calls_of index.now) view updates.now) }
+    ensures { OnOk result (out.new.items ≡ out.old.items ++ concerned_text listed records.now (calls_of index.now) view updates.now) }
 {
-    put_view_line(out, index, records, view, updates)?;
+    put_view_line(out, index, records, listed, view, updates)?;
     put_updates(out, index, records, updates)
 }
 
@@ -49,12 +57,18 @@ impl Explained for IntegrityFault {
 
     ghost is_named = { λ calls f. IsViewAt calls f.view };
 
-    fn put(&self, out: &mut Vec<u8>, index: &Index<'_>, records: &[u32]) -> Result<(), AllocError> {
+    fn put(
+        &self,
+        out: &mut Vec<u8>,
+        index: &Index<'_>,
+        records: &[u32],
+        listed: Entries,
+    ) -> Result<(), AllocError> {
         put_call(out, b"integrity: view ", self.view)?;
         put_entry(out, b" shows ", &self.entry)?;
         out.extend_from_slice(b", which no update wrote\n")?;
         let written = (self.entry.component, self.entry.number);
-        put_concerned(out, index, records, self.view, &[written])
+        put_concerned(out, index, records, listed, self.view, &[written])
     }
 }
 
@@ -79,12 +93,25 @@ impl Explained for ProximityFault {
 
     ghost is_named = { λ calls f. IsViewAt calls f.view × (f.number ≤ event_cap) };
 
-    fn put(&self, out: &mut Vec<u8>, index: &Index<'_>, records: &[u32]) -> Result<(), AllocError> {
+    fn put(
+        &self,
+        out: &mut Vec<u8>,
+        index: &Index<'_>,
+        records: &[u32],
+        listed: Entries,
+    ) -> Result<(), AllocError> {
         let update = side_number(self.side, self.number);
         put_call(out, b"proximity: view ", self.view)?;
         put_update(out, b" shows ", self.component, self.number)?;
         put_side(out, self, update)?;
-        put_concerned(out, index, records, self.view, &[(self.component, update)])
+        put_concerned(
+            out,
+            index,
+            records,
+            listed,
+            self.view,
+            &[(self.component, update)],
+        )
     }
 }
 
@@ -144,17 +171,18 @@ fn put_disagreement(
     out: &mut Vec<u8>,
     index: &Index<'_>,
     records: &[u32],
+    listed: Entries,
     fault: &ReadFault,
     updates: &[(u8, u32)],
 ) -> Result<(), AllocError>
     requires each { length records.now ≡ length index.now }
     requires named { AreReadAt (calls_of index.now) fault.now }
-    ensures { OnOk result (out.new.items ≡ out.old.items ++ disagreement_text records.now (calls_of index.now) updates.now fault.now) }
+    ensures { OnOk result (out.new.items ≡ out.old.items ++ disagreement_text listed records.now (calls_of index.now) updates.now fault.now) }
 {
     put_read(out, index, fault)?;
     put_compared(out, index, fault, updates)?;
-    put_view_line(out, index, records, fault.view, updates)?;
-    put_concerned(out, index, records, fault.other, updates)
+    put_view_line(out, index, records, listed, fault.view, updates)?;
+    put_concerned(out, index, records, listed, fault.other, updates)
 }
 
 impl Explained for ReadFault {
@@ -162,9 +190,15 @@ impl Explained for ReadFault {
 
     ghost is_named = { AreReadAt };
 
-    fn put(&self, out: &mut Vec<u8>, index: &Index<'_>, records: &[u32]) -> Result<(), AllocError> {
+    fn put(
+        &self,
+        out: &mut Vec<u8>,
+        index: &Index<'_>,
+        records: &[u32],
+        listed: Entries,
+    ) -> Result<(), AllocError> {
         let updates = read_updates(*out.allocator(), index, self.view, self.other)?;
-        put_disagreement(out, index, records, self, &updates)
+        put_disagreement(out, index, records, listed, self, &updates)
     }
 }
 
@@ -193,11 +227,17 @@ impl Explained for WriteFault {
 
     ghost is_named = { λ calls f. IsViewAt calls f.view };
 
-    fn put(&self, out: &mut Vec<u8>, index: &Index<'_>, records: &[u32]) -> Result<(), AllocError> {
+    fn put(
+        &self,
+        out: &mut Vec<u8>,
+        index: &Index<'_>,
+        records: &[u32],
+        listed: Entries,
+    ) -> Result<(), AllocError> {
         let missed = (self.missed_component, self.missed_number);
         let shown = (self.shown_component, self.shown_number);
         put_write(out, self)?;
-        put_concerned(out, index, records, self.view, &[missed, shown])
+        put_concerned(out, index, records, listed, self.view, &[missed, shown])
     }
 }
 
@@ -206,14 +246,15 @@ fn put_first<F: Explained>(
     out: &mut Vec<u8>,
     index: &Index<'_>,
     records: &[u32],
+    listed: Entries,
     first: Option<F>,
 ) -> Result<(), AllocError>
     requires each { length records.now ≡ length index.now }
     requires named { ForSome first (F.is_named (calls_of index.now)) }
-    ensures { OnOk result (out.new.items ≡ out.old.items ++ option_map_or (F.text records.now (calls_of index.now)) first []) }
+    ensures { OnOk result (out.new.items ≡ out.old.items ++ option_map_or (F.text listed records.now (calls_of index.now)) first []) }
 {
     match first {
-        Some(fault) => fault.put(out, index, records),
+        Some(fault) => fault.put(out, index, records, listed),
         None => Ok(()),
     }
 }
@@ -223,16 +264,17 @@ pub(crate) fn put_faults(
     out: &mut Vec<u8>,
     index: &Index<'_>,
     records: &[u32],
+    listed: Entries,
     tally: &Tally,
 ) -> Result<(), AllocError>
     requires each { length records.now ≡ length index.now }
     requires tally { tally.now ≡ tally_of (calls_of index.now) (views_of (calls_of index.now)) }
-    ensures { OnOk result (out.new.items ≡ out.old.items ++ faults_text records.now (calls_of index.now) tally.now) }
+    ensures { OnOk result (out.new.items ≡ out.old.items ++ faults_text listed records.now (calls_of index.now) tally.now) }
 {
     // what is known of the history that the index is of
     let _events = index.event_count();
-    put_first(out, index, records, tally.integrity.first())?;
-    put_first(out, index, records, tally.proximity.first())?;
-    put_first(out, index, records, tally.read.first())?;
-    put_first(out, index, records, tally.write.first())
+    put_first(out, index, records, listed, tally.integrity.first())?;
+    put_first(out, index, records, listed, tally.proximity.first())?;
+    put_first(out, index, records, listed, tally.read.first())?;
+    put_first(out, index, records, listed, tally.write.first())
 }

@@ -14,4 +14,5 @@ mod xml;
 pub use explanation::explain;
 pub use refusal::explain_refusal;
 pub use test_case::{Ending, ended_case, passed_case};
+pub use view::Entries;
 pub use xml::xml_laws;

@@ -5,7 +5,7 @@ ghost use Rattle.snap_core.specs.Calls.{call_numbered, calls_of};
 ghost use Rattle.snap_core.specs.Entries.{entry_of, number_in};
 ghost use Rattle.snap_witness.specs.Places.{IsViewAt};
 ghost use Rattle.snap_explain.specs.Faults.{view_numbers};
-ghost use Rattle.snap_explain.specs.Views.{has_component as spec_has_component, named_text, number_word, numbers_text, other_count as spec_other_count, shown_text, some_text, view_text};
+ghost use Rattle.snap_explain.specs.Views.{has_component as spec_has_component, named_text, number_word, numbers_text, of_fault_text, other_count as spec_other_count, shown_text, some_text, view_text};
 
 use crate::call::{put_begin, put_entries};
 use snap_core::{Entry, View};
@@ -14,8 +14,17 @@ use snap_report::{put_call, put_entry, put_number, put_update};
 use snap_witness::view_numbered;
 use std::alloc::AllocError;
 
-/// The most entries of a view that its line has all of.
+/// The most entries of a view of a fault that its line has all of, if not all are asked for.
 pub const MOST_ENTRIES: usize = 16;
+
+/// Which entries of the views of a fault are listed.
+#[derive(Clone, Copy, Debug, PartialEq, Eq)]
+pub enum Entries {
+    /// Of a view with more than 16 those of the fault's components, and the number of the others. All of a smaller one.
+    OfFault,
+    /// All.
+    Whole,
+}
 
 // Whether some update is of the component.
 fn has_component(updates: &[(u8, u32)], component: u8) -> bool
@@ -71,8 +80,12 @@ fn put_some(out: &mut Vec<u8>, updates: &[(u8, u32)], entries: &[Entry]) -> Resu
 }
 
 // Adds the entries of a view: all of few, and of many those of the components of some updates.
-fn put_shown(out: &mut Vec<u8>, updates: &[(u8, u32)], entries: &[Entry]) -> Result<(), AllocError>
-    ensures { OnOk result (out.new.items ≡ out.old.items ++ shown_text updates.now entries.now) }
+fn put_of_fault(
+    out: &mut Vec<u8>,
+    updates: &[(u8, u32)],
+    entries: &[Entry],
+) -> Result<(), AllocError>
+    ensures { OnOk result (out.new.items ≡ out.old.items ++ of_fault_text updates.now entries.now) }
 {
     if MOST_ENTRIES < entries.len() {
         put_some(out, updates, entries)
@@ -81,21 +94,37 @@ fn put_shown(out: &mut Vec<u8>, updates: &[(u8, u32)], entries: &[Entry]) -> Res
     }
 }
 
+// Adds the entries that are listed of a view whose fault these updates show.
+fn put_shown(
+    out: &mut Vec<u8>,
+    listed: Entries,
+    updates: &[(u8, u32)],
+    entries: &[Entry],
+) -> Result<(), AllocError>
+    ensures { OnOk result (out.new.items ≡ out.old.items ++ shown_text listed updates.now entries.now) }
+{
+    match listed {
+        Entries::Whole => put_entries(out, entries),
+        Entries::OfFault => put_of_fault(out, updates, entries),
+    }
+}
+
 /// Adds the line of a view of a fault that these updates show.
 pub(crate) fn put_view_line(
     out: &mut Vec<u8>,
     index: &Index<'_>,
     records: &[u32],
+    listed: Entries,
     view: u32,
     updates: &[(u8, u32)],
 ) -> Result<(), AllocError>
     requires each { length records.now ≡ length index.now }
     requires named { IsViewAt (calls_of index.now) view }
-    ensures { OnOk result (out.new.items ≡ out.old.items ++ view_text records.now updates.now (call_numbered (calls_of index.now) view)) }
+    ensures { OnOk result (out.new.items ≡ out.old.items ++ view_text listed records.now updates.now (call_numbered (calls_of index.now) view)) }
 {
     put_begin(out, index, records, view)?;
     out.extend_from_slice(b"view")?;
-    put_shown(out, updates, view_numbered(index, view).entries())?;
+    put_shown(out, listed, updates, view_numbered(index, view).entries())?;
     out.extend_from_slice(b"\n")
 }
 

@@ -1,6 +1,7 @@
 //! The explanations of worked texts.
 use super::checks::{end_of, history, same, written};
 use snap_core::{Counted, Limit};
+use snap_explain::Entries;
 use snap_runs::explain_run;
 use snap_testing::{Cup, Drip};
 use std::alloc::Global;
@@ -16,7 +17,14 @@ fn explained<Rt: Threads + Sync>(
 ) -> Result<(&'static str, String), Fail> {
     let mut reader = Counted::new(text);
     let mut writer = Counted::new(Vec::new(alloc));
-    let answer = explain_run(rt, alloc, &mut reader, &mut writer, Limit::usual());
+    let answer = explain_run(
+        rt,
+        alloc,
+        &mut reader,
+        &mut writer,
+        Entries::OfFault,
+        Limit::usual(),
+    );
     written(alloc, answer, writer)
 }
 
@@ -112,7 +120,14 @@ fn explain_over<Rt: Threads + Sync, R: Read + Drop, W: Write + Drop>(
 ) -> (&'static str, u64, u64) {
     let mut reader = Counted::new(reader);
     let mut writer = Counted::new(writer);
-    let end = end_of(explain_run(rt, alloc, &mut reader, &mut writer, Limit::usual()));
+    let end = end_of(explain_run(
+        rt,
+        alloc,
+        &mut reader,
+        &mut writer,
+        Entries::OfFault,
+        Limit::usual(),
+    ));
     (end, reader.failures(), writer.failures())
 }
 

@@ -1,6 +1,6 @@
 //! The jobs that words ask for, and the files that they name.
 use snap_core::Limit;
-use snap_words::{Form, Job, job_of};
+use snap_words::{Form, Job, Scheme, job_of};
 use std::alloc::{AllocError, Global};
 use std::test::Fail;
 
@@ -86,19 +86,35 @@ const LINES_WITH_FILES: &[(&str, &[&str])] = &[
     ("snapjudge stats --events 1048576 a.csv", &["a.csv"]),
     ("snapjudge shrink --draw a.csv", &["a.csv"]),
     ("snapjudge explain - --draw", &["-"]),
+    ("snapjudge explain --all a.csv", &["a.csv"]),
+    ("snapjudge explain --draw --all -", &["-"]),
+    ("snapjudge draw --light a.csv", &["a.csv"]),
+    ("snapjudge draw --svg --light a.csv", &["a.csv"]),
+    ("snapjudge draw --dark --svg -", &["-"]),
     ("snapjudge shrink --events 1048576 a.csv", &["a.csv"]),
     ("snapjudge explain --events 1048576 --draw -", &["-"]),
     ("snapjudge draw a.csv --text --events 1048576", &["a.csv"]),
 ];
 
+// The colours that the flags of a line name.
+fn scheme_named(line: &str) -> Scheme {
+    if line.contains(" --light") {
+        Scheme::Light
+    } else if line.contains(" --dark") {
+        Scheme::Dark
+    } else {
+        Scheme::Reader
+    }
+}
+
 // The form of picture that the flags of a line name.
 fn form_named(line: &str) -> Form {
     if line.contains(" --svg") {
-        Form::Svg
+        Form::Svg(scheme_named(line))
     } else if line.contains(" --text") {
         Form::Lines
     } else {
-        Form::Page
+        Form::Page(scheme_named(line))
     }
 }
 
@@ -124,8 +140,15 @@ fn is_its_command(job: &Job, line: &str) -> bool {
         Job::Shrink { drawn, limit, .. } => {
             line.contains(" shrink") && is_drawn(line, *drawn, *limit)
         }
-        Job::Explain { drawn, limit, .. } => {
-            line.contains(" explain") && is_drawn(line, *drawn, *limit)
+        Job::Explain {
+            drawn,
+            whole,
+            limit,
+            ..
+        } => {
+            line.contains(" explain")
+                && is_drawn(line, *drawn, *limit)
+                && *whole == line.contains(" --all")
         }
         Job::Draw { form, limit, .. } => {
             line.contains(" draw")

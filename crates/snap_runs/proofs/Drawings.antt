@@ -11,6 +11,7 @@ use Rattle.snap_conditions.specs.Tally.{tally_of}
 use Rattle.snap_draw.specs.declared.shapes.Shapes.{Shapes}
 use Rattle.snap_draw.specs.Marks.{marks_of}
 use Rattle.snap_draw.specs.Timelines.{AreShapes, calls_drawn}
+use Rattle.snap_explain.specs.declared.view.Entries.{Entries}
 use Rattle.snap_explain.specs.Explanations.{IsExplanation}
 use Rattle.snap_theory.specs.Levels.{printed_order}
 use Rattle.snap_report.specs.Reports.{has_no_fault}
@@ -26,9 +27,9 @@ order_is calls t (Some numbers) given printed = printed numbers refl ∙ ap (λ 
 abbrev whole : List Event → Tally
 whole es = tally_of (calls_of es) (views_of (calls_of es))
 
-pub drawing : {E : Type 0} (limit given : ℕ) (Is : Writes) (es : List Event) (records : List ℕ) (t : Tally) (order : List ℕ) (shapes : Shapes) (said : List ℕ) (result : Result (Vec ℕ) E) → given ≡ limit → t ≡ whole es → order ≡ order_drawn (calls_of es) t →
-    AreShapes order (marks_of (calls_of es) t) (calls_drawn given (calls_of es) t) shapes → IsExplanation records (calls_of es) said → IfOk result (λ out. Is es records shapes order said out.items) → IfOk result (λ out. IsDrawing limit Is es records out.items)
-drawing limit given Is es records t order shapes said result same tally printed are explained written =
+pub drawing : {E : Type 0} (limit given : ℕ) (listed : Entries) (Is : Writes) (es : List Event) (records : List ℕ) (t : Tally) (order : List ℕ) (shapes : Shapes) (said : List ℕ) (result : Result (Vec ℕ) E) → given ≡ limit → t ≡ whole es → order ≡ order_drawn (calls_of es) t →
+    AreShapes order (marks_of (calls_of es) t) (calls_drawn given (calls_of es) t) shapes → IsExplanation listed records (calls_of es) said → IfOk result (λ out. Is es records shapes order said out.items) → IfOk result (λ out. IsDrawing limit listed Is es records out.items)
+drawing limit given listed Is es records t order shapes said result same tally printed are explained written =
     let within : AreShapes order (marks_of (calls_of es) t) (calls_drawn limit (calls_of es) t) shapes =
     subst (λ (n : ℕ). AreShapes order (marks_of (calls_of es) t) (calls_drawn n (calls_of es) t) shapes) same are in
     let order_are : order ≡ order_drawn (calls_of es) (whole es) = printed ∙ ap (order_drawn (calls_of es)) tally in
@@ -43,6 +44,6 @@ drawing limit given Is es records t order shapes said result same tally printed 
       written = subst (λ os. Is es records shapes os said out.items) order_are w;
     }) written
 
-pub drawn_text : (most limit : ℕ) (Is : Writes) (text : List ℕ) (es : List Event) (records given : List ℕ) (status : Status) (out : List ℕ) → HaveRecords most text es records → given ≡ records → DrawsHistory limit Is es given status out → IsDrawnText most limit Is text status out
-drawn_text most limit Is text es records given status out have same e =
-    record { events = es; records = records; history = have; drawn = subst (λ rs. DrawsHistory limit Is es rs status out) same e }
+pub drawn_text : (most limit : ℕ) (listed : Entries) (Is : Writes) (text : List ℕ) (es : List Event) (records given : List ℕ) (status : Status) (out : List ℕ) → HaveRecords most text es records → given ≡ records → DrawsHistory limit listed Is es given status out → IsDrawnText most limit listed Is text status out
+drawn_text most limit listed Is text es records given status out have same e =
+    record { events = es; records = records; history = have; drawn = subst (λ rs. DrawsHistory limit listed Is es rs status out) same e }

@@ -18,6 +18,7 @@ use Rattle.snap_verdict.specs.declared.status.Status.TheVariants.{Refused}
 use Rattle.snap_verdict.specs.Verdicts.{HasStatus}
 use Rattle.snap_verdict.proofs.Verdicts.{IsTallied, all_to, atomic_is}
 use Rattle.snap_explain.specs.declared.test_case.Ending.TheVariants.{Failure, Error}
+use Rattle.snap_explain.specs.declared.view.Entries.TheVariants.{OfFault}
 use Rattle.snap_explain.specs.Explanations.{IsExplanation}
 use Rattle.snap_explain.specs.Refusals.{IsRefusalExplanation}
 use Rattle.snap_explain.specs.TestCases.{ended_case, passed_case}
@@ -45,7 +46,7 @@ counts_none t none =
 
 -- a history whose tally has a fault fails
 pub case_fails : (name : List ℕ) (es : List Event) (records : List ℕ) (t : Tally) (status : Status) (said out : List ℕ) → IsBoundedHistory es → t ≡ whole_tally es → HasStatus es status
-    → (CountsNoFault t → ⊥) → IsExplanation records (calls_of es) said → out ≡ ended_case Failure name said → IsJudgedCase name es records status out
+    → (CountsNoFault t → ⊥) → IsExplanation OfFault records (calls_of es) said → out ≡ ended_case Failure name said → IsJudgedCase name es records status out
 case_fails name es records t status said out kept whole answers some explained is =
     let tallied : IsTallied es t = record { kept = kept; whole = whole } in
     record {

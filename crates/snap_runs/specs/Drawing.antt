@@ -8,6 +8,7 @@ use Rattle.snap_format.specs.Records.{HaveRecords}
 use Rattle.snap_draw.specs.declared.shapes.Shapes.{Shapes}
 use Rattle.snap_draw.specs.Marks.{marks_of}
 use Rattle.snap_draw.specs.Timelines.{AreShapes, calls_drawn}
+use Rattle.snap_explain.specs.declared.view.Entries.{Entries}
 use Rattle.snap_explain.specs.Explanations.{IsExplanation}
 use Rattle.snap_theory.specs.Levels.{printed_order}
 use Rattle.snap_report.specs.Reports.{has_no_fault}
@@ -29,25 +30,25 @@ order_drawn calls t = if has_no_fault t then map (λ (c : Call). c.number) (prin
 abbrev pub AreShapesOf : ℕ → List Call → Tally → Shapes → Type 0
 AreShapesOf limit calls t = AreShapes (order_drawn calls t) (marks_of calls t) (calls_drawn limit calls t)
 
--- the text is what the markup writes of the shapes of the history, its order and its explanation
-pub record IsDrawing (limit : ℕ) (Is : Writes) (events : List Event) (records out : List ℕ) : Type 0 where
+-- the text is what the markup writes of the shapes of the history, its order and its explanation, which lists these entries
+pub record IsDrawing (limit : ℕ) (listed : Entries) (Is : Writes) (events : List Event) (records out : List ℕ) : Type 0 where
   pub shapes : Shapes
   pub said : List ℕ
   pub are_shapes : AreShapesOf limit (calls_of events) (tally_of (calls_of events) (views_of (calls_of events))) shapes
-  pub explained : IsExplanation records (calls_of events) said
+  pub explained : IsExplanation listed records (calls_of events) said
   pub written : Is events records shapes (order_drawn (calls_of events) (tally_of (calls_of events) (views_of (calls_of events)))) said out
 
 -- the status of a history, and its picture by the records of its events
-abbrev pub DrawsHistory : ℕ → Writes → List Event → List ℕ → Status → List ℕ → Type 0
-DrawsHistory limit Is events records status out = HasStatus events status × IsDrawing limit Is events records out
+abbrev pub DrawsHistory : ℕ → Entries → Writes → List Event → List ℕ → Status → List ℕ → Type 0
+DrawsHistory limit listed Is events records status out = HasStatus events status × IsDrawing limit listed Is events records out
 
 -- the status and the picture of a text that is a history, if a history may have up to most events
-pub record IsDrawnText (most limit : ℕ) (Is : Writes) (text : List ℕ) (status : Status) (out : List ℕ) : Type 0 where
+pub record IsDrawnText (most limit : ℕ) (listed : Entries) (Is : Writes) (text : List ℕ) (status : Status) (out : List ℕ) : Type 0 where
   pub events : List Event
   pub records : List ℕ
   pub history : HaveRecords most text events records
-  pub drawn : DrawsHistory limit Is events records status out
+  pub drawn : DrawsHistory limit listed Is events records status out
 
 -- the status and what is written. A text with a fault is explained, and has no picture
-abbrev pub IsDrawn : ℕ → ℕ → Writes → List ℕ → Status → List ℕ → Type 0
-IsDrawn most limit Is text status out = ((status ≡ Refused) × IsExplained most text status out) ⊎ IsDrawnText most limit Is text status out
+abbrev pub IsDrawn : ℕ → ℕ → Entries → Writes → List ℕ → Status → List ℕ → Type 0
+IsDrawn most limit listed Is text status out = ((status ≡ Refused) × IsExplained most listed text status out) ⊎ IsDrawnText most limit listed Is text status out

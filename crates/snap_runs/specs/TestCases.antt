@@ -10,6 +10,7 @@ use Rattle.snap_verdict.specs.declared.status.Status.{Status}
 use Rattle.snap_verdict.specs.declared.status.Status.TheVariants.{Refused}
 use Rattle.snap_verdict.specs.Verdicts.{HasStatus}
 use Rattle.snap_explain.specs.declared.test_case.Ending.TheVariants.{Failure, Error}
+use Rattle.snap_explain.specs.declared.view.Entries.TheVariants.{OfFault}
 use Rattle.snap_explain.specs.Explanations.{IsExplanation}
 use Rattle.snap_explain.specs.Refusals.{IsRefusalExplanation}
 use Rattle.snap_explain.specs.TestCases.{ended_case, passed_case}
@@ -17,7 +18,7 @@ use Rattle.snap_explain.specs.TestCases.{ended_case, passed_case}
 -- the case of a history fails with its explanation
 pub record ExplainsFailure (name : List ℕ) (events : List Event) (records : List ℕ) (out : List ℕ) : Type 0 where
   pub said : List ℕ
-  pub explained : IsExplanation records (calls_of events) said
+  pub explained : IsExplanation OfFault records (calls_of events) said
   pub case_is : out ≡ ended_case Failure name said
 
 -- the status of a history, and its case by the records of its events: it passes if and only if the history is atomic

@@ -47,9 +47,9 @@ fn picture_of<'x, M: Markup>(
     requires each { length records.now ≡ length index.now }
     requires given { is_some order ≡ has_no_fault tally.now }
     requires order { ForSome order (λ numbers. numbers.now ≡ map (λ c. c.number) (printed_order (calls_of index.now))) }
-    ensures { IfOk result (λ text. IsDrawing M.calls M.writes index.now records.now text.items) }
+    ensures { IfOk result (λ text. IsDrawing M.calls (M.entries markup.now) M.writes index.now records.now text.items) }
 {
-    let said = explain(alloc, index, tally, records, order)?;
+    let said = explain(alloc, index, tally, records, order, markup.listed())?;
     let order = numbers_of(order);
     let shapes = shapes_of(alloc, index, tally, order, markup.call_limit())?;
     markup.text(
@@ -80,7 +80,7 @@ fn drawn_by<J: Judging, M: Markup>(
 ) -> Result<(Status, Vec<u8>), AllocError>
     requires ready { J.ready }
     requires each { length records.now ≡ length index.now }
-    ensures { IfOk result (λ answer. DrawsHistory M.calls M.writes index.now records.now answer.0 answer.1.items) }
+    ensures { IfOk result (λ answer. DrawsHistory M.calls (M.entries markup.now) M.writes index.now records.now answer.0 answer.1.items) }
 {
     let (tally, chain) = judging.tally_and_chain(alloc, index, bytes)?;
     let order = judging.order(alloc, index, &tally, chain, bytes)?;
@@ -99,7 +99,7 @@ pub(crate) fn drawn<J: Judging, M: Markup>(
 ) -> Result<(Status, Vec<u8>), AllocError>
     requires ready { J.ready }
     requires each { length records.now ≡ length history.now.events }
-    ensures { IfOk result (λ answer. DrawsHistory M.calls M.writes history.now.events records.now answer.0 answer.1.items) }
+    ensures { IfOk result (λ answer. DrawsHistory M.calls (M.entries markup.now) M.writes history.now.events records.now answer.0 answer.1.items) }
 {
     let index = Index::build(alloc, history)?;
     drawn_by(judging, alloc, markup, &index, records, bytes)
@@ -114,7 +114,7 @@ pub fn draw_input<J: Judging, R: Read, M: Markup>(
     limit: Limit,
 ) -> Result<(Status, Vec<u8>), RunFault>
     requires ready { J.ready }
-    ensures answer { JudgesBy (IsDrawn limit.events M.calls M.writes) (R.remaining (inner_of reader.old)) result }
+    ensures answer { JudgesBy (IsDrawn limit.events M.calls (M.entries markup.now) M.writes) (R.remaining (inner_of reader.old)) result }
     ensures counts { JudgeCounts (failures_in reader.old) (failures_in reader.new) result }
 {
     let mut room = Vec::new(alloc);
@@ -145,7 +145,7 @@ pub fn draw_run<Rt: Threads + Sync, R: Read, W: Write, M: Markup>(
     writer: &mut Counted<W>,
     limit: Limit,
 ) -> Result<Status, RunFault>
-    ensures wrote { WroteBy (IsDrawn limit.events M.calls M.writes) (R.remaining (inner_of reader.old)) (W.contents (inner_of writer.old)) (W.contents (inner_of writer.new)) result }
+    ensures wrote { WroteBy (IsDrawn limit.events M.calls (M.entries markup.now) M.writes) (R.remaining (inner_of reader.old)) (W.contents (inner_of writer.old)) (W.contents (inner_of writer.new)) result }
     ensures counts { RunCounts (failures_in reader.old) (failures_in reader.new) (failures_in writer.old) (failures_in writer.new) result }
 {
     let (status, text) = draw_input(&workers(rt), alloc, markup, reader, limit)?;

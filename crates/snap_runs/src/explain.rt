@@ -10,7 +10,7 @@ ghost use Rattle.snap_check.specs.Runs.{JudgeCounts, JudgesBy, RunCounts, WroteB
 use snap_check::{Judging, RunFault, workers_of};
 use snap_core::{Counted, History, Limit};
 use snap_csv::{ReadRefusal, read_records};
-use snap_explain::{explain, explain_refusal};
+use snap_explain::{Entries, explain, explain_refusal};
 use snap_index::Index;
 use snap_threads::Cutting;
 use snap_verdict::{Status, status_of};
@@ -24,15 +24,16 @@ fn explained_by<J: Judging>(
     alloc: Global,
     index: &Index<'_>,
     records: &[u32],
+    listed: Entries,
     bytes: usize,
 ) -> Result<(Status, Vec<u8>), AllocError>
     requires ready { J.ready }
     requires each { length records.now ≡ length index.now }
-    ensures { IfOk result (λ answer. ExplainsHistory index.now records.now answer.0 answer.1.items) }
+    ensures { IfOk result (λ answer. ExplainsHistory listed index.now records.now answer.0 answer.1.items) }
 {
     let (tally, chain) = judging.tally_and_chain(alloc, index, bytes)?;
     let order = judging.order(alloc, index, &tally, chain, bytes)?;
-    let text = explain(alloc, index, &tally, records, order.as_deref())?;
+    let text = explain(alloc, index, &tally, records, order.as_deref(), listed)?;
     Ok((status_of(index, &tally), text))
 }
 
@@ -42,14 +43,15 @@ fn explained<J: Judging>(
     alloc: Global,
     history: &History,
     records: &[u32],
+    listed: Entries,
     bytes: usize,
 ) -> Result<(Status, Vec<u8>), AllocError>
     requires ready { J.ready }
     requires each { length records.now ≡ length history.now.events }
-    ensures { IfOk result (λ answer. ExplainsHistory history.now.events records.now answer.0 answer.1.items) }
+    ensures { IfOk result (λ answer. ExplainsHistory listed history.now.events records.now answer.0 answer.1.items) }
 {
     let index = Index::build(alloc, history)?;
-    explained_by(judging, alloc, &index, records, bytes)
+    explained_by(judging, alloc, &index, records, listed, bytes)
 }
 
 /// The status of the text that a reader has, and its explanation: what `explain_run` answers and writes.
@@ -57,17 +59,18 @@ pub fn explain_input<J: Judging, R: Read>(
     judging: &J,
     alloc: Global,
     reader: &mut Counted<R>,
+    listed: Entries,
     limit: Limit,
 ) -> Result<(Status, Vec<u8>), RunFault>
     requires ready { J.ready }
-    ensures answer { JudgesBy (IsExplained limit.events) (R.remaining (inner_of reader.old)) result }
+    ensures answer { JudgesBy (IsExplained limit.events listed) (R.remaining (inner_of reader.old)) result }
     ensures counts { JudgeCounts (failures_in reader.old) (failures_in reader.new) result }
 {
     let mut room = Vec::new(alloc);
     match read_records(alloc, reader, &mut room, limit) {
         Ok((history, records)) => {
             let bytes = room.len();
-            Ok(explained(judging, alloc, &history, &records, bytes)?)
+            Ok(explained(judging, alloc, &history, &records, listed, bytes)?)
         }
         Err(ReadRefusal::Text { place, fault }) => {
             let text = explain_refusal(alloc, &room, place, fault, limit)?;
@@ -79,7 +82,8 @@ pub fn explain_input<J: Judging, R: Read>(
 }
 
 /// Reads a history, and writes its explanation. For an atomic history that is an order of its calls. Otherwise it has a sentence for
-/// the first fault of each kind, with each call concerned and the records of its begin and its end. For a text that is not a history,
+/// the first fault of each kind, with each call concerned and the records of its begin and its end. Of a view of a fault it has the
+/// entries that are `listed`. For a text that is not a history,
 /// it has the line of the first fault and the rule that is broken. The record at fault follows, as the text has it.
 /// The status is that of `check_run`. A history may have as many events as the limit says, and its text 1,024 times as many bytes.
 ///
@@ -90,13 +94,14 @@ pub fn explain_run<Rt: Threads + Sync, R: Read, W: Write>(
     alloc: Global,
     reader: &mut Counted<R>,
     writer: &mut Counted<W>,
+    listed: Entries,
     limit: Limit,
 ) -> Result<Status, RunFault>
-    ensures wrote { WroteBy (IsExplained limit.events) (R.remaining (inner_of reader.old)) (W.contents (inner_of writer.old)) (W.contents (inner_of writer.new)) result }
+    ensures wrote { WroteBy (IsExplained limit.events listed) (R.remaining (inner_of reader.old)) (W.contents (inner_of writer.old)) (W.contents (inner_of writer.new)) result }
     ensures counts { RunCounts (failures_in reader.old) (failures_in reader.new) (failures_in writer.old) (failures_in writer.new) result }
 {
     let workers = workers_of(rt, Cutting::usual());
-    let (status, text) = explain_input(&workers, alloc, reader, limit)?;
+    let (status, text) = explain_input(&workers, alloc, reader, listed, limit)?;
     match writer.send(&text) {
         Ok(()) => Ok(status),
         Err(_) => Err(RunFault::Write),

@@ -10,7 +10,7 @@ use snap_check::{Judging, RunFault};
 use snap_conditions::is_atomic;
 use snap_core::{Counted, History, Limit};
 use snap_csv::{ReadRefusal, read_records};
-use snap_explain::{Ending, ended_case, explain, explain_refusal, passed_case};
+use snap_explain::{Ending, Entries, ended_case, explain, explain_refusal, passed_case};
 use snap_index::Index;
 use snap_report::put_number;
 use snap_verdict::{Status, status_of};
@@ -38,7 +38,7 @@ fn judged_case<J: Judging>(
         let text = passed_case(alloc, name)?;
         return Ok((status, text));
     }
-    let said = explain(alloc, index, &tally, records, None)?;
+    let said = explain(alloc, index, &tally, records, None, Entries::OfFault)?;
     let text = ended_case(alloc, Ending::Failure, name, &said)?;
     Ok((status, text))
 }

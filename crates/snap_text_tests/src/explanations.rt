@@ -2,7 +2,7 @@
 ghost use Rattle.std.specs.Prelude.{◌≡◌, length, IfOk};
 
 use snap_core::{History, Limit};
-use snap_explain::{explain, explain_refusal};
+use snap_explain::{Entries, explain, explain_refusal};
 use snap_index::Index;
 use snap_tally::tally_and_chain_alone;
 use snap_testing::Step::{Update, Updated, View, Viewed};
@@ -28,25 +28,35 @@ fn records_from(alloc: Global, history: &History, first: u16) -> Result<Vec<u32>
 }
 
 // The explanation of an index whose events are in these records.
-fn explained(alloc: Global, index: &Index<'_>, records: &[u32]) -> Result<Vec<u8>, AllocError>
+fn explained(
+    alloc: Global,
+    index: &Index<'_>,
+    records: &[u32],
+    listed: Entries,
+) -> Result<Vec<u8>, AllocError>
     requires { length records.now ≡ length index.now }
 {
     let (tally, chain) = tally_and_chain_alone(alloc, index)?;
     let order = order_alone(alloc, index, &tally, chain)?;
-    explain(alloc, index, &tally, records, order.as_deref())
+    explain(alloc, index, &tally, records, order.as_deref(), listed)
 }
 
 // The explanation of a history whose events are in the records from `first` on.
-fn explained_from(alloc: Global, history: &History, first: u16) -> Result<Vec<u8>, AllocError> {
+fn explained_from(
+    alloc: Global,
+    history: &History,
+    first: u16,
+    listed: Entries,
+) -> Result<Vec<u8>, AllocError> {
     let records = records_from(alloc, history, first)?;
     let index = Index::build(alloc, history)?;
-    explained(alloc, &index, &records)
+    explained(alloc, &index, &records, listed)
 }
 
 // The explanation of the history of some steps, whose events are in the records from `first` on.
 fn explanation_from(alloc: Global, steps: &[Step<'_>], first: u16) -> Result<Vec<u8>, Fail> {
     let history = history_of(alloc, steps)?;
-    Ok(explained_from(alloc, &history, first)?)
+    Ok(explained_from(alloc, &history, first, Entries::OfFault)?)
 }
 
 // An update that is shown by a view that ends before it, and that never ends.
@@ -215,8 +225,44 @@ const CROSSED: &str = "regular, and not atomic\n\
 #[test]
 fn of_large_views_the_entries_are_named_in_which_they_differ(rt: HostRuntime) -> Result<(), Fail> {
     let history = crossed_boards(rt.alloc())?;
-    let found = explained_from(rt.alloc(), &history, 2)?;
+    let found = explained_from(rt.alloc(), &history, 2, Entries::OfFault)?;
     assert!(rt; found.as_slice() == CROSSED.as_bytes(), "two large views");
+    Ok(())
+}
+
+// What begins the line of a view, and the entries of its board.
+fn view_line(alloc: Global, front: &str, entries: &[Shown]) -> Result<String, AllocError> {
+    let mut line = String::from_str(alloc, front)?;
+    for (component, number, value) in entries {
+        let entry = format!(in alloc; " {component}:{number}:{value}")?;
+        line.push_str(&entry)?;
+    }
+    Ok(line)
+}
+
+#[test]
+fn all_entries_of_large_views_are_listed_if_that_is_asked_for(rt: HostRuntime) -> Result<(), Fail> {
+    let alloc = rt.alloc();
+    let earlier = board(alloc, (61, 2, 9), (31, 1, 7))?;
+    let later = board(alloc, (61, 1, 7), (31, 2, 8))?;
+    let first = view_line(
+        alloc,
+        "  call 67 of process 64, records 132 and 134: view",
+        &earlier,
+    )?;
+    let second = view_line(
+        alloc,
+        "  call 68 of process 65, records 133 and 135: view",
+        &later,
+    )?;
+    let found = explained_from(alloc, &crossed_boards(alloc)?, 2, Entries::Whole)?;
+    let mut lines = found.split(|byte| *byte == b'\n').skip(3);
+    assert!(rt; lines.next() == Some(first.as_bytes()), "the first view");
+    assert!(rt; lines.next() == Some(second.as_bytes()), "the second view");
+    assert!(rt;
+        found.starts_with(&CROSSED.as_bytes()[..163]),
+        "what stands before the views"
+    );
     Ok(())
 }
 

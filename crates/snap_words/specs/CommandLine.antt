@@ -95,9 +95,13 @@ draw_rule = record (new_rule (codes "draw")) { long = Some (codes "draw"); actio
 abbrev pub shrink_app : App
 shrink_app = with_rules (new_app (codes "shrink")) (draw_rule ∷ events_rule ∷ file_rule ∷ [])
 
--- explain [--draw] [--events N] [FILE]
+-- --all
+abbrev pub all_rule : Rule
+all_rule = record (new_rule (codes "all")) { long = Some (codes "all"); action = Some SetTrue }
+
+-- explain [--draw] [--all] [--events N] [FILE]
 abbrev pub explain_app : App
-explain_app = with_rules (new_app (codes "explain")) (draw_rule ∷ events_rule ∷ file_rule ∷ [])
+explain_app = with_rules (new_app (codes "explain")) (draw_rule ∷ all_rule ∷ events_rule ∷ file_rule ∷ [])
 
 -- --svg
 abbrev pub svg_rule : Rule
@@ -107,9 +111,17 @@ svg_rule = record (new_rule (codes "svg")) { long = Some (codes "svg"); action =
 abbrev pub text_rule : Rule
 text_rule = record (new_rule (codes "text")) { long = Some (codes "text"); action = Some SetTrue }
 
--- draw [--svg] [--text] [--events N] [FILE]
+-- --light
+abbrev pub light_rule : Rule
+light_rule = record (new_rule (codes "light")) { long = Some (codes "light"); action = Some SetTrue }
+
+-- --dark
+abbrev pub dark_rule : Rule
+dark_rule = record (new_rule (codes "dark")) { long = Some (codes "dark"); action = Some SetTrue }
+
+-- draw [--svg] [--text] [--light] [--dark] [--events N] [FILE]
 abbrev pub draw_app : App
-draw_app = with_rules (new_app (codes "draw")) (svg_rule ∷ text_rule ∷ events_rule ∷ file_rule ∷ [])
+draw_app = with_rules (new_app (codes "draw")) (svg_rule ∷ text_rule ∷ light_rule ∷ dark_rule ∷ events_rule ∷ file_rule ∷ [])
 
 -- stats [--format FORMAT] [--events N] [FILE ..]
 abbrev pub stats_app : App

@@ -38,7 +38,7 @@ IsInRange (Check cutting limit options input) =
     IsPieces cutting.pieces × IsWorkers cutting.workers × IsLimit limit.events × AreViews limit.events options.views × IsOneForm options
 IsInRange (Follow limit windows file) = IsLimit limit.events × AreViews limit.events windows.views × IsWindow limit.events windows.least
 IsInRange (Shrink drawn limit file) = IsLimit limit.events
-IsInRange (Explain drawn limit file) = IsLimit limit.events
+IsInRange (Explain drawn whole limit file) = IsLimit limit.events
 IsInRange (Draw form limit file) = IsLimit limit.events
 IsInRange (Stats json limit files) = IsLimit limit.events
 IsInRange (Record workers rounds judge scan stamped seed) = AreWorkers workers × AreRounds rounds × (judge ≡ true → stamped ≡ false)
@@ -92,7 +92,7 @@ IsCheck asked files (Check cutting limit options input) =
     × (texts_of input.files.items ≡ files) × (text_of input.list ≡ asked.list) × (input.null ≡ asked.null) × (text_of input.folder ≡ asked.folder)
 IsCheck asked files (Follow limit windows file) = ⊥
 IsCheck asked files (Shrink drawn limit file) = ⊥
-IsCheck asked files (Explain drawn limit file) = ⊥
+IsCheck asked files (Explain drawn whole limit file) = ⊥
 IsCheck asked files (Draw form limit file) = ⊥
 IsCheck asked files (Stats json limit names) = ⊥
 IsCheck asked files (Record w rounds judge scan stamped seed) = ⊥
@@ -102,7 +102,7 @@ abbrev pub IsFollow : ℕ → Windows → List Text → Job → Type 0
 IsFollow events windows files (Check cutting limit options input) = ⊥
 IsFollow events windows files (Follow limit asked file) = (limit.events ≡ events) × (asked ≡ windows) × (text_of file ≡ first_name files)
 IsFollow events windows files (Shrink drawn limit file) = ⊥
-IsFollow events windows files (Explain drawn limit file) = ⊥
+IsFollow events windows files (Explain drawn whole limit file) = ⊥
 IsFollow events windows files (Draw form limit file) = ⊥
 IsFollow events windows files (Stats json limit names) = ⊥
 IsFollow events windows files (Record w rounds judge scan stamped seed) = ⊥
@@ -112,27 +112,27 @@ abbrev pub IsShrink : ℕ → Bool → List Text → Job → Type 0
 IsShrink events drawn files (Check cutting limit options input) = ⊥
 IsShrink events drawn files (Follow limit windows file) = ⊥
 IsShrink events drawn files (Shrink asked limit file) = (asked ≡ drawn) × (limit.events ≡ events) × (text_of file ≡ first_name files)
-IsShrink events drawn files (Explain asked limit file) = ⊥
+IsShrink events drawn files (Explain asked whole limit file) = ⊥
 IsShrink events drawn files (Draw form limit file) = ⊥
 IsShrink events drawn files (Stats json limit names) = ⊥
 IsShrink events drawn files (Record w rounds judge scan stamped seed) = ⊥
 
--- the job explains it, with a picture or without
-abbrev pub IsExplain : ℕ → Bool → List Text → Job → Type 0
-IsExplain events drawn files (Check cutting limit options input) = ⊥
-IsExplain events drawn files (Follow limit windows file) = ⊥
-IsExplain events drawn files (Shrink asked limit file) = ⊥
-IsExplain events drawn files (Explain asked limit file) = (asked ≡ drawn) × (limit.events ≡ events) × (text_of file ≡ first_name files)
-IsExplain events drawn files (Draw form limit file) = ⊥
-IsExplain events drawn files (Stats json limit names) = ⊥
-IsExplain events drawn files (Record w rounds judge scan stamped seed) = ⊥
+-- the job explains it, with a picture or without, and with all entries of the views of a fault or without
+abbrev pub IsExplain : ℕ → Bool → Bool → List Text → Job → Type 0
+IsExplain events drawn whole files (Check cutting limit options input) = ⊥
+IsExplain events drawn whole files (Follow limit windows file) = ⊥
+IsExplain events drawn whole files (Shrink asked limit file) = ⊥
+IsExplain events drawn whole files (Explain asked all limit file) = (asked ≡ drawn) × (all ≡ whole) × (limit.events ≡ events) × (text_of file ≡ first_name files)
+IsExplain events drawn whole files (Draw form limit file) = ⊥
+IsExplain events drawn whole files (Stats json limit names) = ⊥
+IsExplain events drawn whole files (Record w rounds judge scan stamped seed) = ⊥
 
 -- the job draws it in a form
 abbrev pub IsDraw : ℕ → Form → List Text → Job → Type 0
 IsDraw events form files (Check cutting limit options input) = ⊥
 IsDraw events form files (Follow limit windows file) = ⊥
 IsDraw events form files (Shrink drawn limit file) = ⊥
-IsDraw events form files (Explain drawn limit file) = ⊥
+IsDraw events form files (Explain drawn whole limit file) = ⊥
 IsDraw events form files (Draw asked limit file) = (asked ≡ form) × (limit.events ≡ events) × (text_of file ≡ first_name files)
 IsDraw events form files (Stats json limit names) = ⊥
 IsDraw events form files (Record w rounds judge scan stamped seed) = ⊥
@@ -142,7 +142,7 @@ abbrev pub IsStats : ℕ → Bool → List Text → Job → Type 0
 IsStats events json files (Check cutting limit options input) = ⊥
 IsStats events json files (Follow limit windows file) = ⊥
 IsStats events json files (Shrink drawn limit file) = ⊥
-IsStats events json files (Explain drawn limit file) = ⊥
+IsStats events json files (Explain drawn whole limit file) = ⊥
 IsStats events json files (Draw form limit file) = ⊥
 IsStats events json files (Stats asked limit names) = (asked ≡ json) × (limit.events ≡ events) × (texts_of names.items ≡ files)
 IsStats events json files (Record w rounds judge scan stamped seed) = ⊥
@@ -161,7 +161,7 @@ abbrev pub IsRecord : ℕ → ℕ → ℕ → Flags → Job → Type 0
 IsRecord workers rounds seed flags (Check cutting limit options input) = ⊥
 IsRecord workers rounds seed flags (Follow limit windows file) = ⊥
 IsRecord workers rounds seed flags (Shrink drawn limit file) = ⊥
-IsRecord workers rounds seed flags (Explain drawn limit file) = ⊥
+IsRecord workers rounds seed flags (Explain drawn whole limit file) = ⊥
 IsRecord workers rounds seed flags (Draw form limit file) = ⊥
 IsRecord workers rounds seed flags (Stats json limit names) = ⊥
 IsRecord workers rounds seed flags (Record w r judge scan stamped s) =
@@ -181,6 +181,15 @@ pub record AsksLimit (events : ℕ) (rows : List Row) : Type 0 where
 pub record AsksPictureWithin (events : ℕ) (drawn : Bool) (rows : List Row) : Type 0 where
   pub drawn_is : one_of (codes "draw") rows ≡ Some (flag_text drawn)
   pub limit : AsksLimit events rows
+
+-- whether --draw asks for a picture and --all for all entries of the views of a fault, and the limit of events
+pub record AsksExplanationWithin (events : ℕ) (drawn whole : Bool) (rows : List Row) : Type 0 where
+  pub picture : AsksPictureWithin events drawn rows
+  pub whole_is : one_of (codes "all") rows ≡ Some (flag_text whole)
+
+-- what `explain` asks for if no limit is chosen
+abbrev pub AsksExplanation : Bool → Bool → List Row → Type 0
+AsksExplanation = AsksExplanationWithin event_limit
 
 -- what a picture asks for if no limit is chosen
 abbrev pub AsksPicture : Bool → List Row → Type 0

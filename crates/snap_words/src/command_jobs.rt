@@ -4,7 +4,7 @@ ghost use Rattle.clap.specs.Words.{Row, Text, found_of, rows_of};
 ghost use Rattle.snap_words.specs.Drawing.{AsksDrawWithin};
 ghost use Rattle.snap_words.specs.Inputs.{IsInputOf};
 ghost use Rattle.snap_words.specs.inside.Found.{FindsJob};
-ghost use Rattle.snap_words.specs.Jobs.{AsksCheck, AsksFollow, AsksPictureWithin, AsksRecordWithin, AsksStatsWithin, AsksTooManyRounds, Checking, Flags, FollowsUnheeding, IsCheck, IsDraw, IsExplain, IsFollow, IsInRange, IsRecord, IsShrink, IsStats, LacksFollow, NamesInputTwice, files_of, first_name, text_of, texts_of};
+ghost use Rattle.snap_words.specs.Jobs.{AsksCheck, AsksExplanationWithin, AsksFollow, AsksPictureWithin, AsksRecordWithin, AsksStatsWithin, AsksTooManyRounds, Checking, Flags, FollowsUnheeding, IsCheck, IsDraw, IsExplain, IsFollow, IsInRange, IsRecord, IsShrink, IsStats, LacksFollow, NamesInputTwice, files_of, first_name, text_of, texts_of};
 ghost use Rattle.snap_words.specs.declared.job.Windows.{Windows};
 
 use crate::color::color_in;
@@ -194,11 +194,17 @@ fn shrink_in(matches: &ArgMatches<'_>, file: Option<Vec<u8>>) -> Option<Job>
 // The explanation that the options of `explain` ask for.
 fn explain_in(matches: &ArgMatches<'_>, file: Option<Vec<u8>>) -> Option<Job>
     ensures job { IfSome result IsInRange }
-    ensures asked { (events : ℕ) (drawn : Bool) (files : List Text) → text_of file ≡ first_name files → AsksPictureWithin events drawn (rows_of (found_of matches.now)) → IsSomeAnd result (IsExplain events drawn files) }
+    ensures asked { (events : ℕ) (drawn whole : Bool) (files : List Text) → text_of file ≡ first_name files → AsksExplanationWithin events drawn whole (rows_of (found_of matches.now)) → IsSomeAnd result (IsExplain events drawn whole files) }
 {
     let drawn = flag_in(matches, "draw");
+    let whole = flag_in(matches, "all");
     let limit = limit_in(matches)?;
-    Some(Job::Explain { drawn, limit, file })
+    Some(Job::Explain {
+        drawn,
+        whole,
+        limit,
+        file,
+    })
 }
 
 // The counts that the options of `stats` ask for.

@@ -28,6 +28,9 @@ calls. An update stands between [ ], a view between ( ), and a pending call ends
 a first fault has an exclamation mark, and below it stands the kind of the fault; of an atomic
 history the place of each call in the printed order stands there. What is wrong is said below.
 
+A page is light or dark as the reader's system is, and --svg is light. With --light or --dark
+either is so always. For a picture in dots, `rsvg-convert run.svg > run.png` makes one.
+
     snapjudge draw run.csv > run.html
     snapjudge draw --svg run.csv > run.svg
     snapjudge draw --text run.csv
@@ -54,6 +57,20 @@ const WORDS: &[Word<'static>] = &[
         short: None,
         takes: Takes::Nothing,
         help: "Write the picture as lines of characters; not with --svg",
+    },
+    Word {
+        id: "light",
+        long: Some("light"),
+        short: None,
+        takes: Takes::Nothing,
+        help: "Draw with dark ink on a light ground; not with --text",
+    },
+    Word {
+        id: "dark",
+        long: Some("dark"),
+        short: None,
+        takes: Takes::Nothing,
+        help: "Draw with light ink on a dark ground; not with --light or --text",
     },
     EVENTS,
     FILE,

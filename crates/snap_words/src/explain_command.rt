@@ -13,7 +13,7 @@ const ABOUT: &str =
     "Reads a history from a file or standard input and writes to standard output what its faults are, call by call";
 
 const EXAMPLE: &str = "\
-Of a history that is not atomic the first fault of each kind is told in a sentence, and behind
+Of a history that is not atomic the first fault of each kind is told in a sentence, and below
 it stands a line for each call concerned: its number in the order of begins, its process, the
 records of its begin and its end, and what it wrote or showed. The header is record 1. From
 the history
@@ -38,6 +38,9 @@ it makes
 Of an atomic history it writes the calls in an order that explains each view. Of a text that
 is not a history it says which rule is broken, and which record breaks it.
 
+Of a view with more than 16 entries it lists those of the fault's components, and counts the
+others. With --all it lists all.
+
 With --draw it adds a picture of the calls concerned, and of calls that overlap them. The
 picture is lines of characters, as `snapjudge draw --text` writes them.
 
@@ -56,6 +59,13 @@ const WORDS: &[Word<'static>] = &[
         short: None,
         takes: Takes::Nothing,
         help: "Write a picture of the calls below",
+    },
+    Word {
+        id: "all",
+        long: Some("all"),
+        short: None,
+        takes: Takes::Nothing,
+        help: "List all entries of the views of a fault",
     },
     EVENTS,
     FILE,

@@ -2,7 +2,7 @@
 ghost use Rattle.std.specs.Prelude.{◌≡◌, ℕ, Bool, List, [], codes, IfOk, IsErr, MatchResult, map, string_bytes};
 ghost use Rattle.clap.specs.Words.{Text};
 ghost use Rattle.snap_words.specs.Drawing.{AsksDrawWithin};
-ghost use Rattle.snap_words.specs.Jobs.{AsksCheck, AsksFollow, AsksPictureWithin, AsksRecordWithin, AsksStatsWithin, AsksTooManyRounds, Checking, Flags, FollowsUnheeding, IsCheck, IsDraw, IsExplain, IsFollow, IsInRange, IsRecord, IsShrink, IsStats, LacksFollow, NamesInputTwice};
+ghost use Rattle.snap_words.specs.Jobs.{AsksCheck, AsksExplanationWithin, AsksFollow, AsksPictureWithin, AsksRecordWithin, AsksStatsWithin, AsksTooManyRounds, Checking, Flags, FollowsUnheeding, IsCheck, IsDraw, IsExplain, IsFollow, IsInRange, IsRecord, IsShrink, IsStats, LacksFollow, NamesInputTwice};
 ghost use Rattle.snap_words.specs.Lines.{Means};
 ghost use Rattle.snap_words.specs.declared.drawing.Form.{Form};
 ghost use Rattle.snap_words.specs.declared.job.Windows.{Windows};
@@ -169,8 +169,14 @@ fn whole_job(job: Job, others: &[Vec<u8>]) -> Result<Job, AllocError>
             limit,
             file: whole_name(file, others)?,
         },
-        Job::Explain { drawn, limit, file } => Job::Explain {
+        Job::Explain {
             drawn,
+            whole,
+            limit,
+            file,
+        } => Job::Explain {
+            drawn,
+            whole,
             limit,
             file: whole_name(file, others)?,
         },
@@ -241,9 +247,9 @@ pub fn wanted_by(alloc: Global, words: Words) -> Result<Job, JobFault>
     ensures shrink { (events : ℕ) (drawn : Bool) (files : List Text) → words.others.items ≡ []
         → Means (map string_bytes words.texts.items) (codes "shrink") (AsksPictureWithin events drawn) files
         → MatchResult result (IsShrink events drawn files) (λ fault. fault ≡ JobFault.Memory) }
-    ensures explain { (events : ℕ) (drawn : Bool) (files : List Text) → words.others.items ≡ []
-        → Means (map string_bytes words.texts.items) (codes "explain") (AsksPictureWithin events drawn) files
-        → MatchResult result (IsExplain events drawn files) (λ fault. fault ≡ JobFault.Memory) }
+    ensures explain { (events : ℕ) (drawn whole : Bool) (files : List Text) → words.others.items ≡ []
+        → Means (map string_bytes words.texts.items) (codes "explain") (AsksExplanationWithin events drawn whole) files
+        → MatchResult result (IsExplain events drawn whole files) (λ fault. fault ≡ JobFault.Memory) }
     ensures draw { (events : ℕ) (form : Form) (files : List Text) → words.others.items ≡ []
         → Means (map string_bytes words.texts.items) (codes "draw") (λ rows. AsksDrawWithin events rows form) files
         → MatchResult result (IsDraw events form files) (λ fault. fault ≡ JobFault.Memory) }

@@ -2,7 +2,7 @@
 ghost use Rattle.std.specs.Prelude.{◌≡◌, ℕ, Bool, List, Some, codes, IfOk, IsErr, MatchResult, map, string_bytes};
 ghost use Rattle.clap.specs.Words.{Row, Text, kind_of, subcommand_rows_of};
 ghost use Rattle.snap_words.specs.Drawing.{AsksDrawWithin};
-ghost use Rattle.snap_words.specs.Jobs.{AsksCheck, AsksFollow, AsksPictureWithin, AsksRecordWithin, AsksStatsWithin, AsksTooManyRounds, Checking, Flags, FollowsUnheeding, IsCheck, IsDraw, IsExplain, IsFollow, IsInRange, IsRecord, IsShrink, IsStats, LacksFollow, NamesInputTwice};
+ghost use Rattle.snap_words.specs.Jobs.{AsksCheck, AsksExplanationWithin, AsksFollow, AsksPictureWithin, AsksRecordWithin, AsksStatsWithin, AsksTooManyRounds, Checking, Flags, FollowsUnheeding, IsCheck, IsDraw, IsExplain, IsFollow, IsInRange, IsRecord, IsShrink, IsStats, LacksFollow, NamesInputTwice};
 ghost use Rattle.snap_words.specs.inside.Found.{FindsGiven};
 ghost use Rattle.snap_words.specs.Lines.{Means};
 
@@ -72,9 +72,10 @@ pub enum Job {
         limit: Limit,
         file: Option<Vec<u8>>,
     },
-    /// Explain a history, with a picture or without.
+    /// Explain a history, with a picture or without, and with all entries of the views of a fault or without.
     Explain {
         drawn: bool,
+        whole: bool,
         limit: Limit,
         file: Option<Vec<u8>>,
     },
@@ -181,9 +182,9 @@ pub fn job_of(alloc: Global, words: Vec<String>) -> Result<Job, JobFault>
     ensures shrink { (events : ℕ) (drawn : Bool) (files : List Text)
         → Means (map string_bytes words.items) (codes "shrink") (AsksPictureWithin events drawn) files
         → MatchResult result (IsShrink events drawn files) (λ fault. fault ≡ JobFault.Memory) }
-    ensures explain { (events : ℕ) (drawn : Bool) (files : List Text)
-        → Means (map string_bytes words.items) (codes "explain") (AsksPictureWithin events drawn) files
-        → MatchResult result (IsExplain events drawn files) (λ fault. fault ≡ JobFault.Memory) }
+    ensures explain { (events : ℕ) (drawn whole : Bool) (files : List Text)
+        → Means (map string_bytes words.items) (codes "explain") (AsksExplanationWithin events drawn whole) files
+        → MatchResult result (IsExplain events drawn whole files) (λ fault. fault ≡ JobFault.Memory) }
     ensures draw { (events : ℕ) (form : Form) (files : List Text)
         → Means (map string_bytes words.items) (codes "draw") (λ rows. AsksDrawWithin events rows form) files
         → MatchResult result (IsDraw events form files) (λ fault. fault ≡ JobFault.Memory) }

@@ -22,7 +22,7 @@ mod stats_command;
 mod word;
 
 pub use color::Color;
-pub use drawing::Form;
+pub use drawing::{Form, Scheme};
 pub use format::Format;
 pub use given::{Words, wanted_by, words_of};
 pub use input::{Input, names_input_twice};

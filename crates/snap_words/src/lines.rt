@@ -3,10 +3,11 @@ ghost use Rattle.std.specs.Prelude.{◌∷◌, [], Some, codes, false, true};
 ghost use Rattle.clap.specs.Words.{Text};
 ghost use Rattle.snap_core.specs.Limits.{event_limit};
 ghost use Rattle.snap_words.specs.Drawing.{AsksDraw, AsksDrawWithin};
-ghost use Rattle.snap_words.specs.Jobs.{AsksCheck, AsksFollow, AsksPicture, AsksPictureWithin, AsksRecord, AsksRecordWithin, AsksStats, AsksStatsWithin, AsksTooManyRounds, FollowsUnheeding, LacksFollow, NamesInputTwice, no_flags, no_options, plain_check};
+ghost use Rattle.snap_words.specs.Jobs.{AsksCheck, AsksExplanation, AsksExplanationWithin, AsksFollow, AsksPicture, AsksPictureWithin, AsksRecord, AsksRecordWithin, AsksStats, AsksStatsWithin, AsksTooManyRounds, FollowsUnheeding, LacksFollow, NamesInputTwice, no_flags, no_options, plain_check};
 ghost use Rattle.snap_words.specs.Lines.{Means};
 ghost use Rattle.snap_words.specs.declared.color.Color.TheVariants.{Never};
 ghost use Rattle.snap_words.specs.declared.drawing.Form.TheVariants.{Lines, Page, Svg};
+ghost use Rattle.snap_words.specs.declared.drawing.Scheme.TheVariants.{Dark, Light, Reader};
 ghost use Rattle.snap_words.specs.declared.format.Format.TheVariants.{Json, Junit};
 
 /// What lines of `check` ask for: 8 pieces and 2 workers if nothing else is said, and what each option says. If `--pieces 8` is said,
@@ -39,14 +40,17 @@ pub fn source_lines()
 pub fn picture_lines()
     ensures shrink_alone { (name : Text) → Means (name ∷ codes "shrink" ∷ []) (codes "shrink") (AsksPicture false) [] }
     ensures shrink_drawn { (name : Text) → Means (name ∷ codes "shrink" ∷ codes "--draw" ∷ []) (codes "shrink") (AsksPicture true) [] }
-    ensures explain_alone { (name : Text) → Means (name ∷ codes "explain" ∷ []) (codes "explain") (AsksPicture false) [] }
-    ensures explain_drawn { (name : Text) → Means (name ∷ codes "explain" ∷ codes "--draw" ∷ []) (codes "explain") (AsksPicture true) [] }
-    ensures draw_alone { (name : Text) → Means (name ∷ codes "draw" ∷ []) (codes "draw") (λ rows. AsksDraw rows Page) [] }
-    ensures draw_svg { (name : Text) → Means (name ∷ codes "draw" ∷ codes "--svg" ∷ []) (codes "draw") (λ rows. AsksDraw rows Svg) [] }
+    ensures explain_alone { (name : Text) → Means (name ∷ codes "explain" ∷ []) (codes "explain") (AsksExplanation false false) [] }
+    ensures explain_drawn { (name : Text) → Means (name ∷ codes "explain" ∷ codes "--draw" ∷ []) (codes "explain") (AsksExplanation true false) [] }
+    ensures explain_all { (name : Text) → Means (name ∷ codes "explain" ∷ codes "--all" ∷ []) (codes "explain") (AsksExplanation false true) [] }
+    ensures draw_alone { (name : Text) → Means (name ∷ codes "draw" ∷ []) (codes "draw") (λ rows. AsksDraw rows (Page Reader)) [] }
+    ensures draw_light { (name : Text) → Means (name ∷ codes "draw" ∷ codes "--light" ∷ []) (codes "draw") (λ rows. AsksDraw rows (Page Light)) [] }
+    ensures draw_svg { (name : Text) → Means (name ∷ codes "draw" ∷ codes "--svg" ∷ []) (codes "draw") (λ rows. AsksDraw rows (Svg Reader)) [] }
+    ensures draw_dark { (name : Text) → Means (name ∷ codes "draw" ∷ codes "--svg" ∷ codes "--dark" ∷ []) (codes "draw") (λ rows. AsksDraw rows (Svg Dark)) [] }
     ensures draw_text { (name : Text) → Means (name ∷ codes "draw" ∷ codes "--text" ∷ []) (codes "draw") (λ rows. AsksDraw rows Lines) [] }
     ensures shrink_events { (name : Text) → Means (name ∷ codes "shrink" ∷ codes "--events" ∷ codes "1048576" ∷ []) (codes "shrink") (AsksPictureWithin 1048576 false) [] }
-    ensures explain_events { (name : Text) → Means (name ∷ codes "explain" ∷ codes "--events" ∷ codes "1048576" ∷ []) (codes "explain") (AsksPictureWithin 1048576 false) [] }
-    ensures draw_events { (name : Text) → Means (name ∷ codes "draw" ∷ codes "--events" ∷ codes "1048576" ∷ []) (codes "draw") (λ rows. AsksDrawWithin 1048576 rows Page) [] }
+    ensures explain_events { (name : Text) → Means (name ∷ codes "explain" ∷ codes "--events" ∷ codes "1048576" ∷ []) (codes "explain") (AsksExplanationWithin 1048576 false false) [] }
+    ensures draw_events { (name : Text) → Means (name ∷ codes "draw" ∷ codes "--events" ∷ codes "1048576" ∷ []) (codes "draw") (λ rows. AsksDrawWithin 1048576 rows (Page Reader)) [] }
 {}
 
 /// What lines of `stats` ask for: lines, if nothing else is said. A line that names standard input twice asks for no job.

@@ -29,7 +29,12 @@ pub(crate) fn done<Rt: Threads + Wait + Sync>(
             file,
         } => follow(rt, host, &file, limit, windows),
         Job::Shrink { drawn, limit, file } => shrink(rt, host, &file, drawn, limit),
-        Job::Explain { drawn, limit, file } => explain(rt, host, &file, drawn, limit),
+        Job::Explain {
+            drawn,
+            whole,
+            limit,
+            file,
+        } => explain(rt, host, &file, drawn, whole, limit),
         Job::Draw { form, limit, file } => draw(rt, host, &file, form, limit),
         Job::Stats { json, limit, files } => count(rt, host, files, json, limit),
         Job::Record {

@@ -45,7 +45,7 @@ fn put_classes(out: &mut Vec<u8>, marks: &[Mark], bar: &Bar) -> Result<(), Alloc
 
 // Adds the number of a call and its records.
 fn put_numbers(out: &mut Vec<u8>, records: &[u32], bar: &Bar) -> Result<(), AllocError> {
-    put_call(out, b"\" id=\"call-", bar.drawn.number)?;
+    put_call(out, b"\" data-id=\"call-", bar.drawn.number)?;
     let begun = record_at(records, bar.drawn.call.begun);
     put_parts(out, &[(b"\" data-records=\"", begun)], b"-")?;
     if let Some(ended) = bar.drawn.call.ended {

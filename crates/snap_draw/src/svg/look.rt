@@ -1,4 +1,4 @@
-//! The look of a picture alone, as attributes that every program that draws SVG knows. No byte of them depends on a history.
+//! The look of a light picture, as attributes that every program that draws SVG knows. No byte of them depends on a history.
 //! On a page its style has the same colours by name, and others if it is dark.
 
 /// Of the picture: its ink and its letters.
@@ -8,7 +8,7 @@ pub(crate) const WHOLE: &[u8] =
 /// What lies below everything else: the ground, and the pattern of a fault.
 pub(crate) const GROUND: &[u8] = b"\
 <rect class=\"ground\" width=\"100%\" height=\"100%\" fill=\"#ffffff\"/>
-<defs><pattern id=\"hatch\" width=\"7\" height=\"7\" patternUnits=\"userSpaceOnUse\" patternTransform=\"rotate(45)\"><rect class=\"hatch-ground\" width=\"7\" height=\"7\" fill=\"#fbe3e0\"/><path class=\"hatch-line\" d=\"M 0 0 V 7\" stroke=\"#b3261e\" stroke-width=\"3\"/></pattern></defs>
+<defs><pattern id=\"snapjudge-light\" width=\"7\" height=\"7\" patternUnits=\"userSpaceOnUse\" patternTransform=\"rotate(45)\"><rect class=\"hatch-ground\" width=\"7\" height=\"7\" fill=\"#fbe3e0\"/><path class=\"hatch-line\" d=\"M 0 0 V 7\" stroke=\"#b3261e\" stroke-width=\"3\"/></pattern></defs>
 ";
 
 /// Of the bar of an update.
@@ -18,7 +18,8 @@ pub(crate) const UPDATE: &[u8] = b" fill=\"#2c69a8\" stroke=\"#2c69a8\" stroke-w
 pub(crate) const VIEW: &[u8] = b" fill=\"#ffffff\" stroke=\"#1d6b52\" stroke-width=\"1.5\"";
 
 /// Of the bar of a call of a fault.
-pub(crate) const FAULT: &[u8] = b" fill=\"url(#hatch)\" stroke=\"#b3261e\" stroke-width=\"3.5\"";
+pub(crate) const FAULT: &[u8] =
+    b" fill=\"url(#snapjudge-light)\" stroke=\"#b3261e\" stroke-width=\"3.5\"";
 
 /// Of the bar of any view, in addition.
 pub(crate) const ROUND: &[u8] = b" rx=\"9\"";

@@ -1,6 +1,8 @@
 //! The page around a picture, with a style for light and dark. No byte of it depends on a history.
+use super::scheme::Scheme;
+use std::alloc::AllocError;
 
-/// What a page has before its picture.
+/// What a page has before its colours.
 pub(crate) const HEAD: &[u8] = b"\
 <!doctype html>
 <html lang='en'>
@@ -10,34 +12,44 @@ pub(crate) const HEAD: &[u8] = b"\
 <meta http-equiv='Content-Security-Policy' content='default-src &#39;none&#39;; style-src &#39;unsafe-inline&#39;; script-src &#39;unsafe-inline&#39;'>
 <title>A run, drawn by snapjudge</title>
 <style>
-:root { color-scheme: light dark; --ground: #ffffff; --ink: #1c2127; --faint: #c3c9d0; --quiet: #59636e; --update: #2c69a8; --view: #ffffff; --edge: #1d6b52; --fault: #b3261e; --wash: #fbe3e0; --line: #7a4d9f; }
-@media (prefers-color-scheme: dark) { :root { --ground: #15181c; --ink: #e8ebee; --faint: #444c55; --quiet: #a3adb8; --update: #5b9bd9; --view: #15181c; --edge: #5cc3a0; --fault: #ff8a7f; --wash: #4a2320; --line: #c79bea; } }
+";
+
+// The colours of a light page, by name.
+const LIGHT: &[u8] =
+    b"--ground: #ffffff; --ink: #1c2127; --faint: #c3c9d0; --quiet: #59636e; --update: #2c69a8; --view: #ffffff; --edge: #1d6b52; --fault: #b3261e; --wash: #fbe3e0; --line: #7a4d9f;";
+
+// The colours of a dark page, by name.
+const DARK: &[u8] =
+    b"--ground: #15181c; --ink: #e8ebee; --faint: #444c55; --quiet: #a3adb8; --update: #5b9bd9; --view: #15181c; --edge: #5cc3a0; --fault: #ff8a7f; --wash: #4a2320; --line: #c79bea;";
+
+/// The style of a page after its colours, and the page up to its picture.
+pub(crate) const STYLE: &[u8] = b"\
 @media print { :root { color-scheme: light; --ground: #ffffff; --ink: #000000; --faint: #bbbbbb; --quiet: #444444; --update: #2c69a8; --view: #ffffff; --edge: #1d6b52; --fault: #b3261e; --wash: #fbe3e0; --line: #7a4d9f; } }
-#run { background: var(--ground); color: var(--ink); font: 11px ui-monospace, 'DejaVu Sans Mono', Menlo, Consolas, monospace; }
-#run text { fill: var(--ink); }
+[data-id=run] { background: var(--ground); color: var(--ink); font: 11px ui-monospace, 'DejaVu Sans Mono', Menlo, Consolas, monospace; }
+[data-id=run] text { fill: var(--ink); }
 .ground { display: none; }
-#backs { fill: var(--ground); }
-#verdict { font-size: 13px; font-weight: bold; }
-#strip .all { fill: var(--faint); }
-#strip .window { fill: none; stroke: var(--quiet); stroke-width: 1.5; }
-#strip .tick { fill: none; stroke: var(--fault); stroke-width: 3; }
-#records text, #places text { text-anchor: middle; }
-#run #records text { fill: var(--quiet); }
-#run .name { font-weight: bold; paint-order: stroke; stroke: var(--ground); stroke-width: 4; }
+[data-id=backs] { fill: var(--ground); }
+[data-id=verdict] { font-size: 13px; font-weight: bold; }
+[data-id=strip] .all { fill: var(--faint); }
+[data-id=strip] .window { fill: none; stroke: var(--quiet); stroke-width: 1.5; }
+[data-id=strip] .tick { fill: none; stroke: var(--fault); stroke-width: 3; }
+[data-id=records] text, [data-id=places] text { text-anchor: middle; }
+[data-id=run] [data-id=records] text { fill: var(--quiet); }
+[data-id=run] .name { font-weight: bold; paint-order: stroke; stroke: var(--ground); stroke-width: 4; }
 .lane .line { fill: none; stroke: var(--faint); stroke-width: 1; }
 .bar { stroke-width: 1.5; stroke: var(--update); fill: var(--update); }
 .view .bar { stroke: var(--edge); fill: var(--view); rx: 9px; }
 .pending .bar { stroke-dasharray: 6 3; fill-opacity: 0.45; }
 .open { fill: none; stroke-width: 2; stroke: var(--update); }
 .view .open { stroke: var(--edge); }
-[class*='fault-'] .bar { stroke: var(--fault); stroke-width: 3.5; fill: url(#hatch); }
+[class*='fault-'] .bar { stroke: var(--fault); stroke-width: 3.5; fill: url(#snapjudge-light); }
 .tag, .mark text { font-weight: bold; }
-#run .tag, #run .mark text { fill: var(--fault); }
+[data-id=run] .tag, [data-id=run] .mark text { fill: var(--fault); }
 .hatch-ground { fill: var(--wash); }
 .hatch-line { stroke: var(--fault); stroke-width: 3; }
-#order .line { fill: none; stroke: var(--line); stroke-width: 1.5; stroke-opacity: 0.8; stroke-linejoin: round; }
-#places .point { fill: var(--line); stroke: var(--ground); stroke-width: 1.5; }
-#run .place { font-weight: bold; fill: var(--line); }
+[data-id=order] .line { fill: none; stroke: var(--line); stroke-width: 1.5; stroke-opacity: 0.8; stroke-linejoin: round; }
+[data-id=places] .point { fill: var(--line); stroke: var(--ground); stroke-width: 1.5; }
+[data-id=run] .place { font-weight: bold; fill: var(--line); }
 .call:focus { outline: none; }
 .call:focus .bar, .call:hover .bar, .call.chosen .bar { stroke: var(--ink); stroke-width: 4; }
 body { margin: 0 auto; padding: 12px; max-width: 1400px; box-sizing: border-box; background: var(--ground); color: var(--ink); font: 15px/1.4 system-ui, sans-serif; }
@@ -50,7 +62,7 @@ pre { margin: 4px 0; white-space: pre-wrap; }
 #view { overflow: auto; max-height: 75vh; border: 1px solid var(--faint); cursor: grab; }
 #view:focus-visible { outline: 2px solid var(--line); }
 #view svg { display: block; }
-.script #view .mark text, .script #verdict { display: none; }
+.script #view .mark text, .script [data-id=verdict] { display: none; }
 #panel { border-left: 4px solid var(--quiet); margin: 8px 0; padding: 4px 10px; min-height: 104px; overflow-wrap: anywhere; }
 #panel p { margin: 4px 0 0; font-weight: bold; }
 #panel.is-fault { border-left: 8px double var(--fault); }
@@ -75,24 +87,25 @@ pub(crate) const TAIL: &[u8] = b"\
 <li data-of='.view'><svg width='34' height='14'><g class='view'><rect class='bar' x='3' y='3' width='28' height='8'/></g></svg> view</li>
 <li data-of='.pending'><svg width='34' height='14'><g class='update pending'><rect class='bar' x='3' y='3' width='20' height='8'/><path class='open' d='M 23 2 l 5 5 l -5 5'/></g></svg> pending: no end</li>
 <li data-of='.mark'><svg width='34' height='14'><g class='fault-read'><rect class='bar' x='3' y='3' width='28' height='8'/></g></svg> call of a fault, with its kind below</li>
-<li data-of='#order'><svg width='34' height='14'><g style='fill: var(--line); stroke: var(--line)'><path d='M 3 7 H 31'/><circle cx='17' cy='7' r='4'/></g></svg> order: one that explains all views, a point where each call takes effect</li>
-<li data-of='#strip'><svg width='34' height='14'><rect x='1' y='4' width='32' height='6' style='fill: var(--faint)'/><rect x='9' y='2' width='14' height='10' style='fill: none; stroke: var(--quiet); stroke-width: 1.5'/><path d='M 18 2 V 12' style='stroke: var(--fault); stroke-width: 3'/></svg> strip: the whole run, a frame around what is drawn, a mark where a fault begins</li>
+<li data-of='[data-id=order]'><svg width='34' height='14'><g style='fill: var(--line); stroke: var(--line)'><path d='M 3 7 H 31'/><circle cx='17' cy='7' r='4'/></g></svg> order: one that explains all views, a point where each call takes effect</li>
+<li data-of='[data-id=strip]'><svg width='34' height='14'><rect x='1' y='4' width='32' height='6' style='fill: var(--faint)'/><rect x='9' y='2' width='14' height='10' style='fill: none; stroke: var(--quiet); stroke-width: 1.5'/><path d='M 18 2 V 12' style='stroke: var(--fault); stroke-width: 3'/></svg> strip: the whole run, a frame around what is drawn, a mark where a fault begins</li>
 </ul>
 <p id='help'><kbd>+</kbd> <kbd>-</kbd> or the wheel: larger, smaller. <kbd>0</kbd>: the whole picture. Arrows or a drag: move. <kbd>Tab</kbd>: the next call. The numbers above the bars are the records of the text. <code>p0</code> is process 0. <code>0:1:7</code> is component 0, its update 1 and the value 7.</p>
 <script>
 'use strict';
 (function () {
   const by = function (id) { return document.getElementById(id); };
-  const view = by('view'), run = by('run'), panel = by('panel');
+  const view = by('view'), run = view.querySelector('svg'), panel = by('panel');
+  const drawn = function (id) { return run.querySelector('[data-id=' + id + ']'); };
   const calls = Array.from(run.querySelectorAll('.call'));
   const marks = Array.from(run.querySelectorAll('.mark'));
   const named = function (element) { const title = element.querySelector('title'); return title ? title.textContent : ''; };
   const add = function (parent, kind, text) { const made = document.createElement(kind); made.textContent = text; parent.appendChild(made); };
-  const kindsOf = function (call) { return marks.filter(function (mark) { return call.classList.contains(mark.id); }); };
+  const kindsOf = function (call) { return marks.filter(function (mark) { return call.classList.contains(mark.dataset.id); }); };
 
   // The verdict and the faults stand as text above the picture, where they wrap.
   document.documentElement.classList.add('script');
-  const verdict = by('verdict');
+  const verdict = drawn('verdict');
   if (verdict) { by('heading').textContent = document.title = 'A run: ' + verdict.textContent; }
   marks.forEach(function (mark) { add(by('faults'), 'li', named(mark)); });
   by('faults').hidden = marks.length === 0;
@@ -186,3 +199,26 @@ pub(crate) const TAIL: &[u8] = b"\
 </script>
 </body>
 ";
+
+// Adds the colours of the whole page.
+fn put_root(out: &mut Vec<u8>, schemes: &[u8], colours: &[u8]) -> Result<(), AllocError> {
+    out.extend_from_slice(b":root { color-scheme: ")?;
+    out.extend_from_slice(schemes)?;
+    out.extend_from_slice(b"; ")?;
+    out.extend_from_slice(colours)?;
+    out.extend_from_slice(b" }\n")
+}
+
+/// Adds the colours of a page: those of a scheme, or if none is given those of the reader's system.
+pub(crate) fn put_colours(out: &mut Vec<u8>, scheme: Option<Scheme>) -> Result<(), AllocError> {
+    match scheme {
+        Some(Scheme::Light) => put_root(out, b"light", LIGHT),
+        Some(Scheme::Dark) => put_root(out, b"dark", DARK),
+        None => {
+            put_root(out, b"light dark", LIGHT)?;
+            out.extend_from_slice(b"@media (prefers-color-scheme: dark) { :root { ")?;
+            out.extend_from_slice(DARK)?;
+            out.extend_from_slice(b" } }\n")
+        }
+    }
+}

@@ -50,7 +50,7 @@ fn put_span(
         out,
         &[
             (
-                b"<g id=\"strip\"><title>records ",
+                b"<g data-id=\"strip\"><title>records ",
                 record_at(records, first),
             ),
             (b" to ", record_at(records, last)),

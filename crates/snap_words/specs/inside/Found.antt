@@ -2,7 +2,7 @@
 use Rattle.std.specs.Prelude.{◌≡◌, ℕ, Bool, List, Option, Result, codes, IsErr, IsNone, IsSomeAnd, MatchResult}
 use Rattle.clap.specs.Words.{Row, Text}
 use Rattle.snap_words.specs.Drawing.{AsksDrawWithin}
-use Rattle.snap_words.specs.Jobs.{AsksCheck, AsksFollow, AsksPictureWithin, AsksRecordWithin, AsksStatsWithin, AsksTooManyRounds, Checking, Flags, FollowsUnheeding, IsCheck, IsDraw, IsExplain, IsFollow, IsRecord, IsShrink, IsStats, LacksFollow, NamesInputTwice, files_of}
+use Rattle.snap_words.specs.Jobs.{AsksCheck, AsksExplanationWithin, AsksFollow, AsksPictureWithin, AsksRecordWithin, AsksStatsWithin, AsksTooManyRounds, Checking, Flags, FollowsUnheeding, IsCheck, IsDraw, IsExplain, IsFollow, IsRecord, IsShrink, IsStats, LacksFollow, NamesInputTwice, files_of}
 use Rattle.snap_words.specs.declared.drawing.Form.{Form}
 use Rattle.snap_words.specs.declared.job.Job.{Job}
 use Rattle.snap_words.specs.declared.job.JobFault.{JobFault}
@@ -14,7 +14,7 @@ pub record Finds (command : Text) (rows : List Row) (Gives : (Job → Type 0) �
   pub check : (asked : Checking) → command ≡ codes "check" → AsksCheck rows asked → Gives (IsCheck asked (files_of rows))
   pub follow : (events : ℕ) (windows : Windows) → command ≡ codes "check" → AsksFollow events rows windows → Gives (IsFollow events windows (files_of rows))
   pub shrink : (events : ℕ) (drawn : Bool) → command ≡ codes "shrink" → AsksPictureWithin events drawn rows → Gives (IsShrink events drawn (files_of rows))
-  pub explain : (events : ℕ) (drawn : Bool) → command ≡ codes "explain" → AsksPictureWithin events drawn rows → Gives (IsExplain events drawn (files_of rows))
+  pub explain : (events : ℕ) (drawn whole : Bool) → command ≡ codes "explain" → AsksExplanationWithin events drawn whole rows → Gives (IsExplain events drawn whole (files_of rows))
   pub draw : (events : ℕ) (form : Form) → command ≡ codes "draw" → AsksDrawWithin events rows form → Gives (IsDraw events form (files_of rows))
   pub stats : (events : ℕ) (json : Bool) → command ≡ codes "stats" → AsksStatsWithin events json rows → Gives (IsStats events json (files_of rows))
   pub repeated : command ≡ codes "stats" → NamesInputTwice rows → GivesNone

@@ -25,13 +25,13 @@ returns c =
     elim c.match-order.branch [
       | in-Some+in_ok-extend_from_slice-in-Some+in_ok-put_calls-in-Some w ↦
           let lines = flat_map (call_text records) (calls_numbered (calls_of es) w.in-Some.order.now) in
-          order_explains records es t w.in-Some.order.now c.match-order.out.items c.requires.tally (sym (ap is_some w.in-Some.is) ∙ c.requires.given)
+          order_explains c.args.listed records es t w.in-Some.order.now c.match-order.out.items c.requires.tally (sym (ap is_some w.in-Some.is) ∙ c.requires.given)
           (c.requires.order w.in-Some.order w.in-Some.is)
           (ap (λ (v : Vec _ Global). v.items) w.out-is ∙ w.in_ok-put_calls-in-Some.ensures ∙ ap (λ out. out ++ lines) w.in_ok-extend_from_slice-in-Some.ensures.items
           ∙ ap (λ out. out ++ codes "atomic: in this order each view shows the latest updates before it\n" ++ lines) c.new-out.ensures.items)
       | in-None+in_ok-put_verdict-in-None+in_ok-put_faults-in-None w ↦
-          let faults = faults_text records (calls_of es) t in
-          faults_explain records es t c.match-order.out.items c.requires.tally (sym (ap is_some w.in-None.is) ∙ c.requires.given)
+          let faults = faults_text c.args.listed records (calls_of es) t in
+          faults_explain c.args.listed records es t c.match-order.out.items c.requires.tally (sym (ap is_some w.in-None.is) ∙ c.requires.given)
           (ap (λ (v : Vec _ Global). v.items) w.out-is ∙ w.in_ok-put_faults-in-None.ensures ∙ ap (λ out. out ++ faults) w.in_ok-put_verdict-in-None.ensures
           ∙ ap (λ out. out ++ verdict_text (has_no_local_fault t) ++ faults) c.new-out.ensures.items)
     ]

@@ -12,6 +12,6 @@ returns c =
     let calls = calls_of c.args.index.now in
     let records = c.args.records.now in
     let updates = c.args.updates.now in
-    same_text c.put_updates.result c.put_updates.new.out.items _ (out ++ concerned_text records calls c.args.view updates)
-    (rw c.in_ok-put_view_line.ensures (append_assoc out (view_text records updates (call_numbered calls c.args.view)) (updates_text records calls updates)))
+    same_text c.put_updates.result c.put_updates.new.out.items _ (out ++ concerned_text c.args.listed records calls c.args.view updates)
+    (rw c.in_ok-put_view_line.ensures (append_assoc out (view_text c.args.listed records updates (call_numbered calls c.args.view)) (updates_text records calls updates)))
     c.put_updates.ensures

@@ -13,7 +13,7 @@ returns c =
     let records = c.args.records.now in
     let updates = c.args.updates.now in
     let f = c.args.fault.now in
-    same_text c.put_concerned.result c.put_concerned.new.out.items _ (out ++ disagreement_text records calls updates f)
+    same_text c.put_concerned.result c.put_concerned.new.out.items _ (out ++ disagreement_text c.args.listed records calls updates f)
     (rw (c.in_ok-put_view_line.ensures, c.in_ok-put_compared.ensures, c.in_ok-put_read.ensures)
-    (four_pieces out (read_sentence calls f) (compared_text calls updates f) (view_text records updates (call_numbered calls f.view)) (concerned_text records calls f.other updates)))
+    (four_pieces out (read_sentence calls f) (compared_text calls updates f) (view_text c.args.listed records updates (call_numbered calls f.view)) (concerned_text c.args.listed records calls f.other updates)))
     c.put_concerned.ensures

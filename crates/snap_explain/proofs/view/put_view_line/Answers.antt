@@ -12,6 +12,6 @@ returns c =
     let out = c.args.out.now.items in
     let call = call_numbered (calls_of c.args.index.now) c.args.view in
     piece_added c.extend_from_slice-2.result c.extend_from_slice-2.new.self.items c.put_shown.new.out.items (codes "\n")
-    (out ++ view_text c.args.records.now c.args.updates.now call) c.extend_from_slice-2.ensures.items
+    (out ++ view_text c.args.listed c.args.records.now c.args.updates.now call) c.extend_from_slice-2.ensures.items
     (rw (c.in_ok-put_shown.ensures, c.in_ok-extend_from_slice.ensures.items, c.in_ok-put_begin.ensures, c.entries.ensures.entries ∙ c.view_numbered.ensures)
-    (four_pieces out (call_begin c.args.records.now call) (codes "view") (shown_text c.args.updates.now (entries_of call.operation)) (codes "\n")))
+    (four_pieces out (call_begin c.args.records.now call) (codes "view") (shown_text c.args.listed c.args.updates.now (entries_of call.operation)) (codes "\n")))

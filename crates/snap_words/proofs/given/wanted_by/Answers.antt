@@ -25,11 +25,11 @@ pub returns-clause-shrink : goal.returns-clause-shrink
 returns-clause-shrink c = λ events drawn files whole means. c.readable.ensures (c.in-Err.ensures.shrink events drawn files means)
 
 pub returns-in-Ok-clause-explain : goal.returns-in-Ok-clause-explain
-returns-in-Ok-clause-explain c = λ events drawn files whole means.
-    subst (IsExplain events drawn files) (sym (c.in_ok-whole_job-in-Ok.ensures.same (c.deref-in-Ok.ensures.value ∙ whole))) (c.in-Ok.ensures.explain events drawn files means)
+returns-in-Ok-clause-explain c = λ events drawn all files whole means.
+    subst (IsExplain events drawn all files) (sym (c.in_ok-whole_job-in-Ok.ensures.same (c.deref-in-Ok.ensures.value ∙ whole))) (c.in-Ok.ensures.explain events drawn all files means)
 
 pub returns-clause-explain : goal.returns-clause-explain
-returns-clause-explain c = λ events drawn files whole means. c.readable.ensures (c.in-Err.ensures.explain events drawn files means)
+returns-clause-explain c = λ events drawn all files whole means. c.readable.ensures (c.in-Err.ensures.explain events drawn all files means)
 
 pub returns-in-Ok-clause-draw : goal.returns-in-Ok-clause-draw
 returns-in-Ok-clause-draw c = λ events form files whole means.

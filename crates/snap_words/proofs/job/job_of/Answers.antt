@@ -41,11 +41,11 @@ returns-clause-shrink c = λ events drawn files means.
     on_files means.rows files (IsShrink events drawn) c.asked_by.result means.files_are ((c.asked_by.ensures.asked (codes "shrink") means.rows (found c _ means.rows_are)).shrink events drawn refl means.asks)
 
 pub returns-in-Err-clause-explain : goal.returns-in-Err-clause-explain
-returns-in-Err-clause-explain c = λ events drawn files means. memory c means.taken
+returns-in-Err-clause-explain c = λ events drawn whole files means. memory c means.taken
 
 pub returns-clause-explain : goal.returns-clause-explain
-returns-clause-explain c = λ events drawn files means.
-    on_files means.rows files (IsExplain events drawn) c.asked_by.result means.files_are ((c.asked_by.ensures.asked (codes "explain") means.rows (found c _ means.rows_are)).explain events drawn refl means.asks)
+returns-clause-explain c = λ events drawn whole files means.
+    on_files means.rows files (IsExplain events drawn whole) c.asked_by.result means.files_are ((c.asked_by.ensures.asked (codes "explain") means.rows (found c _ means.rows_are)).explain events drawn whole refl means.asks)
 
 pub returns-in-Err-clause-draw : goal.returns-in-Err-clause-draw
 returns-in-Err-clause-draw c = λ events form files means. memory c means.taken

@@ -13,8 +13,8 @@ returns c =
     let calls = calls_of c.args.index.now in
     let records = c.args.records.now in
     let f = c.args.self.now in
-    same_text c.put_concerned.result c.put_concerned.new.out.items _ (out ++ proximity_text records calls f)
+    same_text c.put_concerned.result c.put_concerned.new.out.items _ (out ++ proximity_text c.args.listed records calls f)
     (rw (c.side_number-update.ensures, c.in_ok-put_side.ensures, c.in_ok-put_update.ensures, c.in_ok-put_call.ensures)
     (six_pieces out (codes "proximity: view ") (call_word f.view) (codes " shows ") (update_word f.component f.number) (side_text f.component f.number f.side)
-    (concerned_text records calls f.view ((f.component, side_number f.side f.number) ∷ []))))
+    (concerned_text c.args.listed records calls f.view ((f.component, side_number f.side f.number) ∷ []))))
     c.put_concerned.ensures

@@ -10,6 +10,6 @@ returns c =
     let calls = calls_of c.args.index.now in
     let records = c.args.records.now in
     let f = c.args.self.now in
-    same_text c.put_disagreement.result c.put_disagreement.new.out.items _ (out ++ read_text records calls f)
-    (ap (λ updates. out ++ disagreement_text records calls updates f) (c.deref.ensures.value ∙ c.in_ok-updates.ensures))
+    same_text c.put_disagreement.result c.put_disagreement.new.out.items _ (out ++ read_text c.args.listed records calls f)
+    (ap (λ updates. out ++ disagreement_text c.args.listed records calls updates f) (c.deref.ensures.value ∙ c.in_ok-updates.ensures))
     c.put_disagreement.ensures

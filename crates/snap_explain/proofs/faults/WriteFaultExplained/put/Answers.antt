@@ -10,7 +10,7 @@ returns c =
     let calls = calls_of c.args.index.now in
     let records = c.args.records.now in
     let f = c.args.self.now in
-    same_text c.put_concerned.result c.put_concerned.new.out.items _ (out ++ write_text records calls f)
+    same_text c.put_concerned.result c.put_concerned.new.out.items _ (out ++ write_text c.args.listed records calls f)
     (rw c.in_ok-put_write.ensures
-    (append_assoc out (write_sentence f) (concerned_text records calls f.view ((f.missed_component, f.missed_number) ∷ (f.shown_component, f.shown_number) ∷ []))))
+    (append_assoc out (write_sentence f) (concerned_text c.args.listed records calls f.view ((f.missed_component, f.missed_number) ∷ (f.shown_component, f.shown_number) ∷ []))))
     c.put_concerned.ensures
