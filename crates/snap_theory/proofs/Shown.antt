@@ -88,21 +88,6 @@ pub is_view_kept : (keeps : ℕ → Bool) (numbers : ℕ → ℕ) (n : ℕ) (r :
 unfolding is_view
 is_view_kept keeps numbers n r h = view_kept numbers r.operation h
 
-shape_of : (o : Operation) (x : Event) → is_answer o ≡ true → IsEndOf o x → EventFits x → AreEntries (entries_of o)
-shape_of (Updates e) x a t f = absurd (false≢true a)
-shape_of (Views o) (BeginUpdate p e) a t f = absurd t
-shape_of (Views o) (BeginView p) a t f = absurd t
-shape_of (Views o) (EndUpdate p) a t f = absurd t
-shape_of (Views o) (EndView p s) a t f = subst (λ z. AreEntries (entries_of (Views z))) (sym t) f.1
-
--- what a completed view shows is a view's entries
-pub shape : (es : List Event) → IsBoundedHistory es → (r : Call) → IsViewOf (calls_of es) r → AreEntries (entries_of r.operation)
-unfolding is_view
-shape es h r v =
-    let e = answered_part es r v in
-    let x = call_end es h.history r e.place v.there e.ends in
-    shape_of r.operation x.event v.completed x.ends (All-contains EventFits es x.event h.fit (Contains-from_In es x.event (In-slice_get es e.place x.event x.there)))
-
 -- a view that shows nothing of a component shows nothing of it
 pub shown_nothing : (keeps : ℕ → Bool) (numbers : ℕ → ℕ) (n : ℕ) (r : Call) (k : ℕ) → AreEntries (entries_of r.operation) → shown r k ≡ None → shown (kept_call keeps numbers n r) k ≡ None
 unfolding shown
