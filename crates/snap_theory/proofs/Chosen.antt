@@ -4,11 +4,11 @@ use Rattle.std.specs.Prelude.{◌==◌}
 use Rattle.std.specs.List.{Contains}
 use Rattle.std.proofs.lemmas.Bool.{or_cases, eqb-true, eq-eqb, false≢true}
 use Rattle.snap_core.specs.declared.event.Event.{Event}
-use Rattle.snap_core.specs.Events.{process_of, events_of, IsHistory}
+use Rattle.snap_core.specs.Events.{process_of, events_of}
 use Rattle.snap_core.specs.Calls.{Call, calls_of}
 use Rattle.snap_core.proofs.Lists.{In, Contains-from_In, any_from, any_to}
 use Rattle.snap_core.proofs.Begun.{Compared, alike, first, second, compare_splits, Next, nothing, found, next, Begun, begins, call_at, no_event}
-use Rattle.snap_core.proofs.Histories.{begun_of, are_calls}
+use Rattle.snap_core.proofs.Histories.{begun_of}
 use Rattle.snap_theory.specs.Kept.{ends_at, is_place_of}
 use Rattle.snap_theory.specs.Choices.{IsChoice, AreChosen}
 use Rattle.snap_theory.specs.Versions.{IsOrdered}

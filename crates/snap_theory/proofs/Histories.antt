@@ -6,12 +6,12 @@ use Rattle.std.proofs.lemmas.Bool.{false≢true, eqb-true, eq-eqb}
 use Rattle.snap_core.specs.declared.entry.Entry.{Entry}
 use Rattle.snap_core.specs.declared.event.Event.{Event}
 use Rattle.snap_core.specs.declared.event.Event.TheVariants.{BeginUpdate, BeginView, EndUpdate, EndView}
-use Rattle.snap_core.specs.Events.{process_of, IsBegin, Ends, TakeTurns, events_of, IsSingleWriter, IsNumbered, begins_update_of, IsHistory}
+use Rattle.snap_core.specs.Events.{process_of, IsBegin, Ends, TakeTurns, events_of, IsSingleWriter, IsNumbered, begins_update_of}
 use Rattle.snap_core.specs.Calls.{next_place, calls_from, calls_of}
 use Rattle.snap_core.proofs.Lists.{In, In-from_Contains, Contains-from_In, around, count-cons, In-append_right}
 use Rattle.snap_core.proofs.Begun.{alike, first, second, compare_splits, call_at, count_inside}
 use Rattle.snap_theory.specs.Kept.{alone, kept_event, kept_from, kept_call}
-use Rattle.snap_theory.specs.Choices.{IsChoice, KeepsCalls, ChoiceKeepsCalls}
+use Rattle.snap_theory.specs.Choices.{IsChoice, ChoiceKeepsCalls}
 use Rattle.snap_theory.proofs.Kept.{Whole, kind, calls_begin, calls_end, begin_kept, process_kept, from_kept, from_left, whole_begin, whole_end, whole_head, kept_to, kept_back, precedes_kept}
 use Rattle.snap_theory.specs.VersionLaws.{OrderedChoiceKeepsCalls}
 use Rattle.snap_theory.proofs.Ordered.{history_is_ordered}

@@ -2,11 +2,9 @@
 use Rattle.std.proofs.Common.{◌≡◌, ℕ, suc, ◌<◌, true, ◌&&◌, List, [], ◌∷◌, refl, sym, ap, ◌∙◌, inl, arith}
 use Rattle.std.proofs.lemmas.Bool.{and_parts, and_from, false≢true}
 use Rattle.snap_core.specs.declared.event.Event.{Event}
-use Rattle.snap_core.specs.Events.{IsBoundedHistory}
 use Rattle.snap_core.specs.Calls.{Call, calls_of, precedes, shown_number, is_update_numbered}
 use Rattle.snap_core.specs.Regular.{IsViewOf}
 use Rattle.snap_core.proofs.Lists.{In-from_Contains, any_from, any_to, Passes}
-use Rattle.snap_core.proofs.Histories.{are_calls}
 use Rattle.snap_theory.specs.Faults.{old_fault, early_fault}
 use Rattle.snap_theory.proofs.Local.{numbered_to}
 use Rattle.snap_theory.specs.FaultWitnesses.{Old, Early, fault_updates}

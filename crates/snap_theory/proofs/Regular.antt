@@ -6,12 +6,10 @@ use Rattle.std.specs.Option.{option_map}
 use Rattle.std.proofs.lemmas.Bool.{eqb-true, false≢true, false_from_ne_true, ltb-true, lt-ltb, cases_eq}
 use Rattle.snap_core.specs.declared.entry.Entry.{Entry}
 use Rattle.snap_core.specs.declared.event.Event.{Event}
-use Rattle.snap_core.specs.Events.{IsBoundedHistory}
 use Rattle.snap_core.specs.Calls.{Call, Operation, Updates, Views, calls_of, precedes, is_view, is_answer, shown, shown_number}
 use Rattle.snap_core.specs.Regular.{IsViewOf, IsUpdateOf, IsBegunBeforeEnd, IsRegular}
 use Rattle.snap_core.proofs.Lists.{In, In-from_Contains}
 use Rattle.snap_core.proofs.Facts.{shows_positive, shown_number_at, shown_in}
-use Rattle.snap_core.proofs.Histories.{are_calls}
 use Rattle.snap_theory.proofs.Local.{numbered_from}
 use Rattle.snap_theory.specs.Kept.{alone, rank, is_place_of, kept_call, kept_events, kept_from, kept_operation}
 use Rattle.snap_theory.specs.Choices.{KeepsCalls, AreChosen}

@@ -1,18 +1,11 @@
 -- What a view that is kept shows.
-use Rattle.std.proofs.Common.{◌≡◌, ◌≢◌, ℕ, Bool, true, false, cond, List, [], ◌∷◌, Some, None, refl, sym, ap, ◌∙◌, subst, inl, inr, arith}
+use Rattle.std.proofs.Common.{◌≡◌, ◌≢◌, ℕ, Bool, true, false, cond, List, [], ◌∷◌, Some, None, refl, sym, ap, ◌∙◌, inl, inr, arith}
 use Rattle.std.specs.Prelude.{◌==◌}
 use Rattle.std.proofs.lemmas.Bool.{eqb-true, eq-eqb, false≢true}
-use Rattle.std.proofs.lemmas.List.Elements.{All-contains}
 use Rattle.snap_core.specs.declared.entry.Entry.{Entry}
-use Rattle.snap_core.specs.declared.event.Event.{Event}
-use Rattle.snap_core.specs.declared.event.Event.TheVariants.{BeginUpdate, BeginView, EndUpdate, EndView}
 use Rattle.snap_core.specs.Entries.{AreEntries, entry_of, number_in}
-use Rattle.snap_core.specs.Events.{IsBoundedHistory, EventFits}
-use Rattle.snap_core.specs.Calls.{Call, Operation, Updates, Views, calls_of, entries_of, is_view, is_answer, shown, shown_number}
-use Rattle.snap_core.specs.Regular.{IsViewOf}
-use Rattle.snap_core.proofs.Lists.{In, Contains-from_In}
-use Rattle.snap_core.proofs.Histories.{IsEndOf, call_end, answered_part}
-use Rattle.snap_core.proofs.Members.{In-slice_get}
+use Rattle.snap_core.specs.Calls.{Call, Operation, Updates, Views, entries_of, is_view, is_answer, shown, shown_number}
+use Rattle.snap_core.proofs.Lists.{In}
 use Rattle.snap_theory.proofs.Entries.{AreSorted, sorted, sorted_tail, above, listed_first, listed_behind}
 use Rattle.snap_theory.specs.Kept.{alone, kept_entries, kept_operation, kept_call}
 

@@ -4,9 +4,8 @@ use Rattle.std.specs.Prelude.{◌==◌}
 use Rattle.std.specs.List.{list_any}
 use Rattle.std.proofs.lemmas.Bool.{eq-eqb, ne_eqb, false≢true, or_cases, cases_eq}
 use Rattle.snap_core.specs.declared.event.Event.{Event}
-use Rattle.snap_core.specs.declared.event.Event.TheVariants.{BeginUpdate, BeginView, EndUpdate, EndView}
-use Rattle.snap_core.specs.Events.{IsHistory, IsBegin}
-use Rattle.snap_core.specs.Calls.{Call, Operation, Updates, Views, calls_from, calls_of}
+use Rattle.snap_core.specs.Events.{IsBegin}
+use Rattle.snap_core.specs.Calls.{Call, calls_from, calls_of}
 use Rattle.snap_core.proofs.Lists.{Contains-from_In, any_from, any_to}
 use Rattle.snap_theory.specs.Kept.{ends_at, is_place_of, kept_event, kept_events, kept_from}
 use Rattle.snap_theory.specs.Choices.{AreChosen}

@@ -5,14 +5,12 @@ use Rattle.std.specs.List.{Contains}
 use Rattle.std.proofs.lemmas.Bool.{false≢true}
 use Rattle.snap_core.specs.declared.entry.Entry.{Entry}
 use Rattle.snap_core.specs.declared.event.Event.{Event}
-use Rattle.snap_core.specs.Events.{IsBoundedHistory, IsHistory}
+use Rattle.snap_core.specs.Events.{IsHistory}
 use Rattle.snap_core.specs.Calls.{Call, Operation, Updates, calls_of, precedes, is_view, is_answer, shown, shown_number, is_update_numbered}
-use Rattle.snap_core.specs.Orders.{IsAtomic}
 use Rattle.snap_core.specs.Regular.{IsViewOf}
 use Rattle.snap_core.proofs.Lists.{In, In-from_Contains, Contains-from_In, In-append_left, In-append_right, In-append_cases}
 use Rattle.snap_core.proofs.Members.{In-find}
 use Rattle.snap_core.proofs.Facts.{shown_number_at, shown_number_none, shows_positive}
-use Rattle.snap_core.proofs.Histories.{are_calls}
 use Rattle.snap_theory.specs.Updates.{update_of}
 use Rattle.snap_theory.proofs.Local.{numbered_to, numbered_from, PassesAll, all_tests}
 use Rattle.snap_theory.proofs.Backward.{legal_meets}

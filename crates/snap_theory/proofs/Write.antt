@@ -3,12 +3,10 @@ use Rattle.std.proofs.Common.{◌≡◌, ◌≢◌, ℕ, suc, ◌<◌, ◌≤◌
 use Rattle.std.specs.List.{list_any}
 use Rattle.std.proofs.lemmas.Bool.{and_parts, and_from}
 use Rattle.snap_core.specs.declared.event.Event.{Event}
-use Rattle.snap_core.specs.Events.{IsBoundedHistory, IsHistory}
 use Rattle.snap_core.specs.Calls.{Call, calls_of, precedes, shown_number, is_update_numbered}
 use Rattle.snap_core.specs.Regular.{IsViewOf}
 use Rattle.snap_core.proofs.Lists.{In, any_from, any_to, Passes}
 use Rattle.snap_core.proofs.Facts.{precedes_to}
-use Rattle.snap_core.proofs.Histories.{are_calls}
 use Rattle.snap_theory.specs.Faults.{write_fault}
 use Rattle.snap_theory.proofs.Local.{IsNumbered, numbered_to}
 use Rattle.snap_theory.specs.FaultWitnesses.{Write, fault_updates}
