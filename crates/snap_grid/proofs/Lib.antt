@@ -6,3 +6,4 @@ pub mod Kindred
 pub mod Trees
 pub mod Sweeps
 pub mod OneColumn
+pub mod Rising

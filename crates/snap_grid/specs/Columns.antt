@@ -45,3 +45,12 @@ drop_count g a = count_by (drops g a) (rows_of g)
 
 unfoldable pub has_clash : GridValue → ℕ → Bool
 has_clash g a = list_any (clashes g a) (rows_of g)
+
+-- each column has n rows
+abbrev pub HaveLength : ℕ → List (List ℕ) → Type 0
+HaveLength n columns = (j : ℕ) → j < length columns → length (get_or columns j []) ≡ n
+
+-- these columns have as many rows as the given ones, and tell alike of any two rows whether one has a greater number in some column
+pub record TellAlike (columns keys : List (List ℕ)) : Type 0 where
+  pub rows : (n : ℕ) → HaveLength n columns → HaveLength n keys
+  pub same : (a b : ℕ) → any_passes true keys a b ≡ any_passes true columns a b

@@ -5,3 +5,4 @@ pub mod Kept
 pub mod Kinds
 pub mod Sweeps
 pub mod Trees
+pub mod Together

@@ -7,7 +7,7 @@ use Rattle.std.proofs.Math.Seq.{get_or-append_seam}
 use Rattle.snap_core.specs.declared.event.Event.{Event}
 use Rattle.snap_core.specs.Events.{IsBoundedHistory}
 use Rattle.snap_core.specs.Calls.{Call, calls_of, views_of, shown_number, precedes}
-use Rattle.snap_grid.specs.Columns.{AreOrderedAs, GridValue, number, clashes, any_passes, passes, drops}
+use Rattle.snap_grid.specs.Columns.{AreOrderedAs, GridValue, TellAlike, number, clashes, any_passes, passes, drops}
 use Rattle.snap_grid.proofs.Passing.{any_at}
 use Rattle.snap_theory.specs.Faults.{exceeds, is_stale, read_fault}
 use Rattle.snap_views.specs.Seen.{view_in}
@@ -149,6 +149,12 @@ pub show_keys : (calls : List Call) (columns keys : List (List ℕ)) → ShowAll
 show_keys calls columns keys shown h = record {
   count = λ t m. let j = h.each t m in j.2.count ∙ shown.count j.0 j.1;
   exceed = λ a b l m. shown.exceed a b l m ∙ same_passes columns keys (length (views_of calls)) a b shown.count h l m;
+}
+
+pub show_alike : (calls : List Call) (columns keys : List (List ℕ)) → ShowAll calls columns → TellAlike columns keys → ShowAll calls keys
+show_alike calls columns keys shown h = record {
+  count = h.rows (length (views_of calls)) shown.count;
+  exceed = λ a b l m. shown.exceed a b l m ∙ sym (h.same a b);
 }
 
 -- the grid of columns and places

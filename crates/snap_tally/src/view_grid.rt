@@ -13,7 +13,7 @@ ghost use Rattle.snap_views.specs.Seen.{AreViewPlaces, view_in, views_at, views_
 use crate::columns::columns_between;
 use crate::ranks::ranks;
 use snap_core::COMPONENT_COUNT;
-use snap_grid::{Column, Grid, by_ranks};
+use snap_grid::{Column, Grid, by_ranks, joined};
 use snap_index::Index;
 use snap_views::{ViewChain, view_at};
 use std::alloc::{AllocError, Global};
@@ -85,7 +85,8 @@ impl<'i, 'h> ViewGrid<'i, 'h> {
     {
         // this call shows what is known of the index's history
         let _events = index.event_count();
-        let keys = by_ranks(alloc, columns)?;
+        let ranked = by_ranks(alloc, columns)?;
+        let keys = joined(alloc, ranked)?;
         ViewGrid::of_keys(alloc, index, keys)
     }
 

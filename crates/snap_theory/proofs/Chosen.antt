@@ -4,13 +4,15 @@ use Rattle.std.specs.Prelude.{◌==◌}
 use Rattle.std.specs.List.{Contains}
 use Rattle.std.proofs.lemmas.Bool.{or_cases, eqb-true, eq-eqb, false≢true}
 use Rattle.snap_core.specs.declared.event.Event.{Event}
-use Rattle.snap_core.specs.Events.{process_of, events_of, IsHistory}
+use Rattle.snap_core.specs.Events.{process_of, events_of}
 use Rattle.snap_core.specs.Calls.{Call, calls_of}
 use Rattle.snap_core.proofs.Lists.{In, Contains-from_In, any_from, any_to}
 use Rattle.snap_core.proofs.Begun.{Compared, alike, first, second, compare_splits, Next, nothing, found, next, Begun, begins, call_at, no_event}
-use Rattle.snap_core.proofs.Histories.{begun_of, are_calls}
+use Rattle.snap_core.proofs.Histories.{begun_of}
 use Rattle.snap_theory.specs.Kept.{ends_at, is_place_of}
 use Rattle.snap_theory.specs.Choices.{IsChoice, AreChosen}
+use Rattle.snap_theory.specs.Versions.{IsOrdered}
+use Rattle.snap_theory.proofs.Ordered.{are_ordered_calls}
 
 -- a call by its begin
 same_begun : (es : List Event) (a b : Call) → Contains (calls_of es) a → Contains (calls_of es) b → a.begun ≡ b.begun → a ≡ b
@@ -95,13 +97,13 @@ ends_true None place h = absurd (false≢true h)
 ends_true (Some end) place h = ap Some (eqb-true _ _ h)
 
 -- a call whose begin is kept is one of the chosen
-pub chosen_begun : (es : List Event) → IsHistory es → (chosen : List Call) (numbers : ℕ → ℕ) → AreChosen chosen numbers (calls_of es) → (c : Call) → Contains (calls_of es) c → is_place_of chosen c.begun ≡ true → In c chosen
+pub chosen_begun : (es : List Event) → IsOrdered es → (chosen : List Call) (numbers : ℕ → ℕ) → AreChosen chosen numbers (calls_of es) → (c : Call) → Contains (calls_of es) c → is_place_of chosen c.begun ≡ true → In c chosen
 chosen_begun es h chosen numbers o c i k =
     let p = any_to (λ d. (d.begun == c.begun) || ends_at d.ended c.begun) chosen k in
     let j = o.there p.it (Contains-from_In chosen p.it p.there) in
     elim (or_cases (p.it.begun == c.begun) (ends_at p.it.ended c.begun) p.passes) [
       | inl e ↦ subst (λ d. In d chosen) (same_begun es p.it c j i (eqb-true _ _ e)) p.there
-      | inr e ↦ absurd ((are_calls es h).apart p.it c c.begun j i (ends_true p.it.ended c.begun e) refl)
+      | inr e ↦ absurd ((are_ordered_calls es h).apart p.it c c.begun j i (ends_true p.it.ended c.begun e) refl)
     ]
 
 -- the places of a chosen call
@@ -116,12 +118,12 @@ ended_chosen : (chosen : List Call) (c : Call) (end : ℕ) → In c chosen → c
 ended_chosen chosen c end i e = any_from (λ d. (d.begun == end) || ends_at d.ended end) chosen c i (or_right (c.begun == end) (ends_at c.ended end) (ap (λ z. ends_at z end) e ∙ eq-eqb end end refl))
 
 -- a call whose end is kept is one of the chosen
-chosen_ended : (es : List Event) → IsHistory es → (chosen : List Call) (numbers : ℕ → ℕ) → AreChosen chosen numbers (calls_of es) → (c : Call) (end : ℕ) → Contains (calls_of es) c → c.ended ≡ Some end → is_place_of chosen end ≡ true → In c chosen
+chosen_ended : (es : List Event) → IsOrdered es → (chosen : List Call) (numbers : ℕ → ℕ) → AreChosen chosen numbers (calls_of es) → (c : Call) (end : ℕ) → Contains (calls_of es) c → c.ended ≡ Some end → is_place_of chosen end ≡ true → In c chosen
 chosen_ended es h chosen numbers o c end i f k =
     let p = any_to (λ d. (d.begun == end) || ends_at d.ended end) chosen k in
     let j = o.there p.it (Contains-from_In chosen p.it p.there) in
     elim (or_cases (p.it.begun == end) (ends_at p.it.ended end) p.passes) [
-      | inl e ↦ absurd ((are_calls es h).apart c p.it end i j f (eqb-true _ _ e))
+      | inl e ↦ absurd ((are_ordered_calls es h).apart c p.it end i j f (eqb-true _ _ e))
       | inr e ↦ subst (λ d. In d chosen) (same_begun es p.it c j i (same_end es p.it c end j i (ends_true p.it.ended end e) f)) p.there
     ]
 
@@ -130,7 +132,7 @@ both true b f g = sym (f refl)
 both false true f g = g refl
 both false false f g = refl
 
-pub chosen_is_choice : (es : List Event) → IsHistory es → (chosen : List Call) (numbers : ℕ → ℕ) → AreChosen chosen numbers (calls_of es) → IsChoice (is_place_of chosen) numbers (calls_of es)
+pub chosen_is_choice : (es : List Event) → IsOrdered es → (chosen : List Call) (numbers : ℕ → ℕ) → AreChosen chosen numbers (calls_of es) → IsChoice (is_place_of chosen) numbers (calls_of es)
 chosen_is_choice es h chosen numbers o = record {
   whole = λ c end i e. both (is_place_of chosen end) (is_place_of chosen c.begun)
       (λ k. begun_chosen chosen c (chosen_ended es h chosen numbers o c end i e k))

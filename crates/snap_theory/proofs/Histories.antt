@@ -2,17 +2,19 @@
 use Rattle.std.proofs.Common.{◌≡◌, ℕ, zero, suc, ◌+◌, Bool, true, false, cond, List, [], ◌∷◌, ◌++◌, length, Some, refl, sym, ap, ◌∙◌, subst, inl, inr, arith, append_assoc}
 use Rattle.std.specs.Prelude.{◌==◌}
 use Rattle.std.specs.List.{count_by}
-use Rattle.std.proofs.lemmas.Bool.{false≢true, eqb-true}
+use Rattle.std.proofs.lemmas.Bool.{false≢true, eqb-true, eq-eqb}
 use Rattle.snap_core.specs.declared.entry.Entry.{Entry}
 use Rattle.snap_core.specs.declared.event.Event.{Event}
 use Rattle.snap_core.specs.declared.event.Event.TheVariants.{BeginUpdate, BeginView, EndUpdate, EndView}
-use Rattle.snap_core.specs.Events.{process_of, IsBegin, Ends, TakeTurns, events_of, IsSingleWriter, IsNumbered, begins_update_of, IsHistory}
+use Rattle.snap_core.specs.Events.{process_of, IsBegin, Ends, TakeTurns, events_of, IsSingleWriter, IsNumbered, begins_update_of}
 use Rattle.snap_core.specs.Calls.{next_place, calls_from, calls_of}
 use Rattle.snap_core.proofs.Lists.{In, In-from_Contains, Contains-from_In, around, count-cons, In-append_right}
-use Rattle.snap_core.proofs.Begun.{call_at, count_inside}
+use Rattle.snap_core.proofs.Begun.{alike, first, second, compare_splits, call_at, count_inside}
 use Rattle.snap_theory.specs.Kept.{alone, kept_event, kept_from, kept_call}
-use Rattle.snap_theory.specs.Choices.{IsChoice, KeepsCalls}
+use Rattle.snap_theory.specs.Choices.{IsChoice, ChoiceKeepsCalls}
 use Rattle.snap_theory.proofs.Kept.{Whole, kind, calls_begin, calls_end, begin_kept, process_kept, from_kept, from_left, whole_begin, whole_end, whole_head, kept_to, kept_back, precedes_kept}
+use Rattle.snap_theory.specs.VersionLaws.{OrderedChoiceKeepsCalls}
+use Rattle.snap_theory.proofs.Ordered.{history_is_ordered}
 
 -- calls in turn
 
@@ -253,30 +255,27 @@ numbered_kept keeps numbers es num h before after p e split =
     let one : e.number ≡ 1 = ap (λ (w : Entry). w.number) o.is in
     omega (arith, one, count_none e.component before (none_before keeps numbers es num h before after p e split))
 
-single_kept : (keeps : ℕ → Bool) (numbers : ℕ → ℕ) (es : List Event) → IsSingleWriter es → IsSingleWriter (kept_from keeps numbers 0 es)
-single_kept keeps numbers es h p q d e i j same =
-    let a = around (BeginUpdate p d) (kept_from keeps numbers 0 es) (In-from_Contains (kept_from keeps numbers 0 es) (BeginUpdate p d) i) in
-    let b = around (BeginUpdate q e) (kept_from keeps numbers 0 es) (In-from_Contains (kept_from keeps numbers 0 es) (BeginUpdate q e) j) in
-    let s = stood keeps numbers 0 es a.before (BeginUpdate p d) a.after a.same in
-    let t = stood keeps numbers 0 es b.before (BeginUpdate q e) b.after b.same in
-    let o = origin numbers p d s.event s.is in
-    let u = origin numbers q e t.event t.is in
-    let v : es ≡ s.front ++ BeginUpdate p o.entry ∷ s.rest = s.split ∙ ap (λ w. s.front ++ w ∷ s.rest) o.was in
-    let w : es ≡ t.front ++ BeginUpdate q u.entry ∷ t.rest = t.split ∙ ap (λ w. t.front ++ w ∷ t.rest) u.was in
-    h p q o.entry u.entry
-    (Contains-from_In es (BeginUpdate p o.entry) (subst (In (BeginUpdate p o.entry)) (sym v) (In-append_right (BeginUpdate p o.entry) s.front (BeginUpdate p o.entry ∷ s.rest) (inl refl))))
-    (Contains-from_In es (BeginUpdate q u.entry) (subst (In (BeginUpdate q u.entry)) (sym w) (In-append_right (BeginUpdate q u.entry) t.front (BeginUpdate q u.entry ∷ t.rest) (inl refl))))
-    (ap (λ (w : Entry). w.component) (sym o.is) ∙ same ∙ ap (λ (w : Entry). w.component) u.is)
+-- of each component one update alone is kept
+single_kept : (keeps : ℕ → Bool) (numbers : ℕ → ℕ) (es : List Event) → IsNumbered es → IsChoice keeps numbers (calls_of es) → IsSingleWriter (kept_from keeps numbers 0 es)
+single_kept keeps numbers es num h p q d e i j same =
+    let kept = kept_from keeps numbers 0 es in
+    let a = around (BeginUpdate p d) kept (In-from_Contains kept (BeginUpdate p d) i) in
+    let b = around (BeginUpdate q e) kept (In-from_Contains kept (BeginUpdate q e) j) in
+    elim (compare_splits a.before (BeginUpdate p d) a.after b.before (BeginUpdate q e) b.after (sym a.same ∙ b.same)) [
+      | alike r s t ↦ cc
+      | first mid r s ↦ absurd (none_before keeps numbers es num h b.before b.after q e b.same (BeginUpdate p d) (subst (In (BeginUpdate p d)) (sym r) (In-append_right (BeginUpdate p d) a.before (BeginUpdate p d ∷ mid) (inl refl))) (eq-eqb _ _ same))
+      | second mid r s ↦ absurd (none_before keeps numbers es num h a.before a.after p d a.same (BeginUpdate q e) (subst (In (BeginUpdate q e)) (sym r) (In-append_right (BeginUpdate q e) b.before (BeginUpdate q e ∷ mid) (inl refl))) (eq-eqb _ _ (sym same)))
+    ]
 
 whole_choice : (keeps : ℕ → Bool) (numbers : ℕ → ℕ) (es : List Event) → IsChoice keeps numbers (calls_of es) → Whole keeps (calls_of es)
 whole_choice keeps numbers es h c j i e = h.whole c j (Contains-from_In (calls_of es) c i) e
 
-pub choice_keeps_calls : (keeps : ℕ → Bool) (numbers : ℕ → ℕ) (es : List Event) → IsHistory es → IsChoice keeps numbers (calls_of es) → KeepsCalls keeps numbers es
+pub ordered_choice_keeps_calls : OrderedChoiceKeepsCalls
 unfolding calls_of More
-choice_keeps_calls keeps numbers es h c = record {
+ordered_choice_keeps_calls keeps numbers es h c = record {
   history = record {
     well_formed = λ p. turns_kept keeps numbers p 0 es 0 false (BeginView 0) false (idle (BeginView 0)) (h.well_formed p) w;
-    single_writer = single_kept keeps numbers es h.single_writer;
+    single_writer = single_kept keeps numbers es h.numbered c;
     numbered = numbered_kept keeps numbers es h.numbered c;
   };
   each = λ a i k. (
@@ -290,3 +289,6 @@ choice_keeps_calls keeps numbers es h c = record {
   where
     w : Whole keeps (calls_from 0 0 es)
     w = whole_choice keeps numbers es c
+
+pub choice_keeps_calls : ChoiceKeepsCalls
+choice_keeps_calls keeps numbers es h = ordered_choice_keeps_calls keeps numbers es (history_is_ordered es h)

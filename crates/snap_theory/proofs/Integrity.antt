@@ -5,7 +5,6 @@ use Rattle.std.specs.List.{list_any}
 use Rattle.std.proofs.lemmas.Bool.{eqb-true, eq-eqb, false≢true, false_from_ne_true, and_parts, and_from, not-true}
 use Rattle.snap_core.specs.declared.entry.Entry.{Entry}
 use Rattle.snap_core.specs.declared.event.Event.{Event}
-use Rattle.snap_core.specs.Events.{IsBoundedHistory}
 use Rattle.snap_core.specs.Calls.{Call, Operation, Updates, Views, calls_of, shown, shown_number}
 use Rattle.snap_core.specs.Regular.{IsViewOf}
 use Rattle.snap_core.proofs.Lists.{In, any_from, any_to}
@@ -16,6 +15,7 @@ use Rattle.snap_theory.specs.Kept.{alone, kept_operation}
 use Rattle.snap_theory.specs.Witness.{numbers_of, witness_of, in_witness, AreWitnesses}
 use Rattle.snap_theory.proofs.Pairs.{Shows, of_one, one_apart, first_number, witnesses}
 use Rattle.snap_theory.proofs.Witnesses.{origin_of, shown_there, ViewKept, view_there}
+use Rattle.snap_theory.proofs.Ordered.{IsFittingHistory}
 
 record Unwritten (calls : List Call) (o : Option Entry) : Type 0 where
   entry : Entry
@@ -34,7 +34,7 @@ wrote numbers (Updates d) e h n =
     and_from _ _ p.0 (and_from _ _ (eq-eqb d.number e.number (n d refl)) q.1)
 wrote numbers (Views a) e h n = absurd (false≢true h)
 
-pub integrity_shows : (es : List Event) → IsBoundedHistory es → (r : Call) (k : ℕ) → IsViewOf (calls_of es) r → integrity_fault (calls_of es) r k ≡ true → Shows es (Integrity r k) (fault_updates (Integrity r k))
+pub integrity_shows : (es : List Event) → IsFittingHistory es → (r : Call) (k : ℕ) → IsViewOf (calls_of es) r → integrity_fault (calls_of es) r k ≡ true → Shows es (Integrity r k) (fault_updates (Integrity r k))
 unfolding integrity_fault
 integrity_shows es h r k v t = record { are = w; few = omega arith; fault = (x.number, 0, (x.view, fault)); covers = λ e. absurd (false≢true (sym e)) }
   where
@@ -51,7 +51,7 @@ integrity_shows es h r k v t = record { are = w; few = omega arith; fault = (x.n
     w = witnesses es (r ∷ []) ps (of_one (IsViewOf (calls_of es)) r v) (one_apart k (shown_number r k))
 
     x : ViewKept es (r ∷ []) ps r
-    x = view_there es (r ∷ []) ps h.history w r (inl refl)
+    x = view_there es (r ∷ []) ps h.ordered w r (inl refl)
 
     W : List Call
     W = calls_of (witness_of es (r ∷ []) ps)
@@ -66,7 +66,7 @@ integrity_shows es h r k v t = record { are = w; few = omega arith; fault = (x.n
 
     no_writer : (d : Call) → In d W → writes_entry d.operation (alone u.entry) ≡ true → ⊥
     no_writer d i z =
-        let o = origin_of es (r ∷ []) ps h.history w d i in
+        let o = origin_of es (r ∷ []) ps h.ordered w d i in
         false≢true (sym u.none ∙ any_from (λ c. writes_entry c.operation u.entry) (calls_of es) o.call o.there
         (wrote (numbers_of ps) o.call.operation u.entry (ap (λ z. writes_entry z (alone u.entry)) (sym o.operation) ∙ z)
         (λ e q. o.numbered e q ∙ ap (numbers_of ps) (same_component e q o.operation z) ∙ first_number k (shown_number r k) [] ∙ number)))

@@ -3,7 +3,7 @@ use Rattle.std.proofs.Common.{sym, subst}
 use Rattle.snap_core.specs.Calls.{calls_of}
 use Rattle.snap_theory.specs.Levels.{printed_order, IsPrintedOrder}
 use Rattle.snap_theory.proofs.Starts.{start_push, start_back}
-use Rattle.snap_theory.proofs.Keys.{keys_give_order}
+use Rattle.snap_theory.proofs.Keys.{sorted_keys_give_order}
 use Rattle.snap_theory.proofs.Unique.{printed_is, printed_alone}
 use Rattle.snap_theory.specs.OrderLaws.{PrintsLegalOrder, LegalOrderHasNoFault, AtomicExactly, AtomicIsMonotone, PrintedOrderAlone, LegalStartGrows, KeysGiveOrder}
 use Rattle.snap_theory.proofs.Forward.{printed_legal}
@@ -33,7 +33,7 @@ ordered_printed_alone es h order =
     (printed_alone (calls_of es) order f, λ e. subst (IsPrintedOrder (calls_of es)) (sym e) (printed_is (calls_of es) f))
 
 pub ordered_keys_give_order : OrderedKeysGiveOrder
-ordered_keys_give_order es h keys k = keys_give_order (calls_of es) (are_ordered_calls es h) keys k
+ordered_keys_give_order es h keys k = sorted_keys_give_order (calls_of es) (are_ordered_calls es h) keys k
 
 pub legal_start_grows : LegalStartGrows
 legal_start_grows calls before c = (λ h. start_push calls before c h.0 h.1, start_back calls before c)

@@ -1,12 +1,12 @@
 -- What the calls of an ordered history are known by.
-use Rattle.std.proofs.Common.{◌≡◌, ◌≢◌, ℕ, zero, suc, ◌+◌, ◌-◌, ◌<◌, ◌≤◌, Bool, true, false, cond, List, [], ◌∷◌, ◌++◌, append_assoc, length, get_or, Option, Some, None, refl, sym, ap, ◌∙◌, subst, inl, inr, arith}
-use Rattle.std.specs.List.{Contains, count_by}
+use Rattle.std.proofs.Common.{◌≡◌, ◌≢◌, ℕ, zero, suc, ◌+◌, ◌-◌, ◌<◌, ◌≤◌, Bool, true, false, cond, List, [], ◌∷◌, ◌++◌, append_assoc, length, get_or, slice_get, Option, Some, None, refl, sym, ap, ◌∙◌, subst, inl, inr, arith}
+use Rattle.std.specs.List.{All, Contains, count_by}
 use Rattle.std.proofs.lemmas.Bool.{false≢true, ltb-true, lt-ltb, eqb-true, cases_order}
 use Rattle.std.proofs.lemmas.List.{length-append, get_or_at}
 use Rattle.snap_core.specs.declared.entry.Entry.{Entry}
 use Rattle.snap_core.specs.declared.event.Event.{Event}
 use Rattle.snap_core.specs.declared.event.Event.TheVariants.{BeginUpdate, BeginView, EndUpdate, EndView}
-use Rattle.snap_core.specs.Events.{process_of, IsBegin, Ends, begins_update_of, IsWellFormed, IsNumbered, IsHistory}
+use Rattle.snap_core.specs.Events.{process_of, IsBegin, Ends, begins_update_of, IsWellFormed, IsNumbered, IsHistory, EventFits}
 use Rattle.snap_core.specs.Calls.{Call, Updates, Views, next_place, next_answer, answer_at, calls_from, calls_of, is_before, precedes}
 use Rattle.snap_core.specs.Regular.{IsViewOf, IsUpdateOf}
 use Rattle.snap_core.proofs.Lists.{Pairs, Contains-from_In, count-cons}
@@ -14,6 +14,7 @@ use Rattle.snap_core.proofs.Facts.{AreCalls, EarlierUpdate, Ended, precedes_to}
 use Rattle.snap_core.proofs.Begun.{Compared, alike, first, second, compare_splits, not_end, Next, nothing, found, next, ends_it, begins, begins-append, begin_one, operation_at, call_at, Begun, numbers_rise, update_event, count_inside, call_there}
 use Rattle.snap_core.proofs.Histories.{are_calls, begun_of, answered_part}
 use Rattle.snap_theory.specs.Versions.{EndInOrder, IsOrdered}
+use Rattle.std.proofs.lemmas.Option.{slice_get-get_or}
 
 pub record AreOrderedCalls (calls : List Call) : Type 0 where
   -- updates of one component begin and end in the order of their numbers
@@ -102,29 +103,43 @@ begins_first es a b i j l = go (compare_splits x.before x.event x.after y.before
     go (first mid s t) = omega (arith, x.at_number, y.at_number, ap begins s ∙ begins-append x.before (x.event ∷ mid), begin_one x.event x.opens)
     go (second mid s t) = absurd (omega (arith, x.at_place, y.at_place, ap length s ∙ length-append y.before (y.event ∷ mid)))
 
+-- an event that ends a call, at its place in the list
+pub record EndEvent (es : List Event) (place : ℕ) : Type 0 where
+  pub front : List Event
+  pub event : Event
+  pub rest : List Event
+  pub split : es ≡ front ++ event ∷ rest
+  pub size : length front ≡ place
+  pub no_begin : IsBegin event → ⊥
+
+pub end_event : (es : List Event) → IsWellFormed es → (c : Call) (place : ℕ) → Contains (calls_of es) c → c.ended ≡ Some place → EndEvent es place
+end_event es w c place i h =
+    let x = begun_of es c i in
+    let z = end_of es w c place x h in
+    record {
+      front = x.before ++ x.event ∷ z.mid;
+      event = z.event;
+      rest = z.rest;
+      split = x.split ∙ ap (λ v. x.before ++ x.event ∷ v) z.split ∙ sym (append_assoc x.before (x.event ∷ z.mid) (z.event ∷ z.rest));
+      size = omega (arith, length-append x.before (x.event ∷ z.mid), x.at_place, z.at_place);
+      no_begin = not_end x.event z.event z.ends;
+    }
+
+-- the only event at a place
+event_at : (es front rest : List Event) (x d : Event) (place : ℕ) → es ≡ front ++ x ∷ rest → length front ≡ place → get_or es place d ≡ x
+event_at es front rest x d place s l = ap (λ v. get_or v place d) s ∙ get_or_at front x rest d place l
+
+pub there_ends : (es : List Event) (place : ℕ) (z : EndEvent es place) → slice_get es place ≡ Some z.event
+there_ends es place z =
+    let within : place < length es = omega (arith, ap length z.split ∙ length-append z.front (z.event ∷ z.rest), z.size) in
+    slice_get-get_or es place z.event within ∙ ap Some (event_at es z.front z.rest z.event z.event place z.split z.size)
+
 no_begin_at_end : (es : List Event) → IsWellFormed es → (a b : Call) (place : ℕ) → Contains (calls_of es) a → Contains (calls_of es) b → a.ended ≡ Some place → b.begun ≢ place
-no_begin_at_end es w a b place i j h eq = not_end x.event z.event z.ends (subst IsBegin (sym event) y.opens)
-  where
-    x : Begun 0 0 es a
-    x = begun_of es a i
-
-    y : Begun 0 0 es b
-    y = begun_of es b j
-
-    z : EndsAt es a x place
-    z = end_of es w a place x h
-
-    front : List Event
-    front = x.before ++ x.event ∷ z.mid
-
-    split : es ≡ front ++ z.event ∷ z.rest
-    split = x.split ∙ ap (λ v. x.before ++ x.event ∷ v) z.split ∙ sym (append_assoc x.before (x.event ∷ z.mid) (z.event ∷ z.rest))
-
-    event : z.event ≡ y.event
-    event =
-        sym (get_or_at front z.event z.rest z.event place (omega (arith, length-append x.before (x.event ∷ z.mid), x.at_place, z.at_place)))
-        ∙ ap (λ v. get_or v place z.event) (sym split ∙ y.split)
-        ∙ get_or_at y.before y.event y.after z.event place (omega (arith, y.at_place, eq))
+no_begin_at_end es w a b place i j h eq =
+    let z = end_event es w a place i h in
+    let y = begun_of es b j in
+    let same : z.event ≡ y.event = sym (event_at es z.front z.rest z.event z.event place z.split z.size) ∙ event_at es y.before y.after y.event z.event place y.split (omega (arith, y.at_place, eq)) in
+    z.no_begin (subst IsBegin (sym same) y.opens)
 
 silent : (x y : Event) (after : List Event) → IsBegin x → Ends x y → operation_at x after ≡ Views None → next_answer (process_of x) after ≡ answer_at y → ⊥
 silent (BeginUpdate p e) y after i t o n = cc
@@ -275,3 +290,8 @@ are_ordered_calls es h = record {
   where
     entry : (a b : Call) (d e : Entry) → a ≡ b → a.operation ≡ Updates d → b.operation ≡ Updates e → d ≡ e
     entry a b d e s v w = let q : Updates d ≡ Updates e = sym v ∙ ap (λ (z : Call). z.operation) s ∙ w in cc
+
+-- an ordered history of any length whose fields fit their types
+pub record IsFittingHistory (es : List Event) : Type 0 where
+  pub ordered : IsOrdered es
+  pub fit : All EventFits es

@@ -2,7 +2,6 @@
 use Rattle.std.proofs.Common.{◌≡◌, ◌≢◌, ℕ, ◌+◌, ◌<◌, ◌≤◌, true, false, cond, List, [], ◌∷◌, length, refl, ap, ◌∙◌, subst, inl, inr, arith, length-append}
 use Rattle.std.proofs.lemmas.Bool.{eq-eqb, ne_eqb}
 use Rattle.snap_core.specs.declared.event.Event.{Event}
-use Rattle.snap_core.specs.Events.{IsBoundedHistory}
 use Rattle.snap_core.specs.Calls.{Call, calls_of, shown_number}
 use Rattle.snap_core.specs.Regular.{IsViewOf}
 use Rattle.snap_core.proofs.Lists.{In, In-from_Contains}
@@ -11,6 +10,7 @@ use Rattle.snap_theory.proofs.Exceeding.{exceeds_from}
 use Rattle.snap_theory.specs.FaultWitnesses.{Fault, fault_views, call_limit, is_local, HasFaultKept}
 use Rattle.snap_theory.specs.Witness.{numbers_of, updates_kept, witness_calls, witness_of, in_witness, AreWitnesses}
 use Rattle.snap_theory.proofs.Witnesses.{few_calls, shows_one, shows_none}
+use Rattle.snap_theory.proofs.Ordered.{IsFittingHistory}
 
 -- no view shows more of a component than the number it is paired with
 abbrev pub Covers : List Call → List (ℕ × ℕ) → Type 0
@@ -63,7 +63,7 @@ pub covers_two : (r : Call) (k n j m : ℕ) → shown_number r k ≤ n → shown
 covers_two r k n j m = of_two (λ (p : ℕ × ℕ). shown_number r p.0 ≤ p.1) (k, n) (j, m)
 
 -- a view that shows more of a component, where its update is kept, does so in the witness
-pub more_there : (es : List Event) (rs : List Call) (ps : List (ℕ × ℕ)) → IsBoundedHistory es → (r s : Call) (m n k : ℕ) → IsViewOf (calls_of es) s → shown_number s k < shown_number r k → numbers_of ps k ≡ shown_number r k → exceeds (in_witness es rs ps m r) (in_witness es rs ps n s) ≡ true
+pub more_there : (es : List Event) (rs : List Call) (ps : List (ℕ × ℕ)) → IsFittingHistory es → (r s : Call) (m n k : ℕ) → IsViewOf (calls_of es) s → shown_number s k < shown_number r k → numbers_of ps k ≡ shown_number r k → exceeds (in_witness es rs ps m r) (in_witness es rs ps n s) ≡ true
 more_there es rs ps h r s m n k v l e =
     let one = shows_one es rs ps m r k (omega arith) e in
     let none = shows_none es rs ps h n s k v (λ q. omega (arith, q, e, l)) in

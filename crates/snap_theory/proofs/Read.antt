@@ -4,7 +4,6 @@ use Rattle.std.specs.List.{All}
 use Rattle.std.proofs.lemmas.Bool.{and_parts, and_from, or_left, or_right}
 use Rattle.snap_core.specs.declared.event.Event.{Event}
 use Rattle.snap_core.specs.Entries.{HasByteComponent}
-use Rattle.snap_core.specs.Events.{IsBoundedHistory}
 use Rattle.snap_core.specs.Calls.{Call, calls_of, entries_of, precedes, shown_number}
 use Rattle.snap_core.specs.Regular.{IsViewOf}
 use Rattle.snap_core.proofs.Lists.{In, In-from_Contains}
@@ -13,8 +12,9 @@ use Rattle.snap_theory.proofs.Components.{least_exceeded}
 use Rattle.snap_theory.specs.FaultWitnesses.{Read, shown_update, excess_of, fault_updates}
 use Rattle.snap_theory.specs.Witness.{numbers_of, in_witness, AreWitnesses}
 use Rattle.snap_theory.proofs.Pairs.{Shows, Covers, of_two, one_apart, two_apart, first_number, second_number, witnesses, covers_one, covers_two, more_there}
-use Rattle.snap_theory.proofs.Shown.{shape}
+use Rattle.snap_theory.proofs.Components.{fit_views}
 use Rattle.snap_theory.proofs.Witnesses.{precedence_there, view_place, ViewKept, view_there}
+use Rattle.snap_theory.proofs.Ordered.{IsFittingHistory}
 
 -- the least component of which r shows more than s
 record Excess (r s : Call) : Type 0 where
@@ -22,13 +22,13 @@ record Excess (r s : Call) : Type 0 where
   least : least_exceeding r s ≡ Some component
   more : shown_number s component < shown_number r component
 
-excess : (es : List Event) → IsBoundedHistory es → (r s : Call) → IsViewOf (calls_of es) r → exceeds r s ≡ true → Excess r s
+excess : (es : List Event) → IsFittingHistory es → (r s : Call) → IsViewOf (calls_of es) r → exceeds r s ≡ true → Excess r s
 excess es h r s v e =
-    let bytes : All HasByteComponent (entries_of r.operation) = λ k d l. ((shape es h r v).fit k d l).0 in
+    let bytes : All HasByteComponent (entries_of r.operation) = λ k d l. ((fit_views es h.fit r v.there).fit k d l).0 in
     let x = least_exceeded r s bytes e in
     record { component = x.0; least = x.1; more = x.2.more }
 
-made : (es : List Event) → IsBoundedHistory es → (r s : Call) → IsViewOf (calls_of es) r → IsViewOf (calls_of es) s → (ps : List (ℕ × ℕ)) → length ps ≤ 2 → ((p : ℕ × ℕ) → In p ps → numbers_of ps p.0 ≡ p.1) →
+made : (es : List Event) → IsFittingHistory es → (r s : Call) → IsViewOf (calls_of es) r → IsViewOf (calls_of es) s → (ps : List (ℕ × ℕ)) → length ps ≤ 2 → ((p : ℕ × ℕ) → In p ps → numbers_of ps p.0 ≡ p.1) →
     Covers (r ∷ s ∷ []) ps → ((m n : ℕ) → read_fault (in_witness es (r ∷ s ∷ []) ps m r) (in_witness es (r ∷ s ∷ []) ps n s) ≡ true) → Shows es (Read r s) ps
 made es h r s v w ps few apart covers fault = record {
   are = a;
@@ -41,13 +41,13 @@ made es h r s v w ps few apart covers fault = record {
     a = witnesses es (r ∷ s ∷ []) ps (of_two (IsViewOf (calls_of es)) r s v w) apart
 
     x : ViewKept es (r ∷ s ∷ []) ps r
-    x = view_there es (r ∷ s ∷ []) ps h.history a r (inl refl)
+    x = view_there es (r ∷ s ∷ []) ps h.ordered a r (inl refl)
 
     y : ViewKept es (r ∷ s ∷ []) ps s
-    y = view_there es (r ∷ s ∷ []) ps h.history a s (inr (inl refl))
+    y = view_there es (r ∷ s ∷ []) ps h.ordered a s (inr (inl refl))
 
 -- r precedes s
-before : (es : List Event) → IsBoundedHistory es → (r s : Call) → IsViewOf (calls_of es) r → IsViewOf (calls_of es) s → (k : ℕ) → shown_number s k < shown_number r k → precedes r s ≡ true → Shows es (Read r s) ((k, shown_number r k) ∷ [])
+before : (es : List Event) → IsFittingHistory es → (r s : Call) → IsViewOf (calls_of es) r → IsViewOf (calls_of es) s → (k : ℕ) → shown_number s k < shown_number r k → precedes r s ≡ true → Shows es (Read r s) ((k, shown_number r k) ∷ [])
 unfolding read_fault
 before es h r s v w k l p = made es h r s v w ps (omega arith) (one_apart k (shown_number r k)) covers fault
   where
@@ -63,11 +63,11 @@ before es h r s v w k l p = made es h r s v w ps (omega arith) (one_apart k (sho
     fault : (m n : ℕ) → (exceeds (in_witness es (r ∷ s ∷ []) ps m r) (in_witness es (r ∷ s ∷ []) ps n s) && (precedes (in_witness es (r ∷ s ∷ []) ps m r) (in_witness es (r ∷ s ∷ []) ps n s) || exceeds (in_witness es (r ∷ s ∷ []) ps n s) (in_witness es (r ∷ s ∷ []) ps m r))) ≡ true
     fault m n =
         and_from _ _ (more_there es (r ∷ s ∷ []) ps h r s m n k w l (first_number k (shown_number r k) []))
-        (or_left _ _ (precedence_there es (r ∷ s ∷ []) ps h.history a r s m n (In-from_Contains (calls_of es) r v.there) (In-from_Contains (calls_of es) s w.there)
+        (or_left _ _ (precedence_there es (r ∷ s ∷ []) ps h.ordered a r s m n (In-from_Contains (calls_of es) r v.there) (In-from_Contains (calls_of es) s w.there)
         (view_place es (r ∷ s ∷ []) ps r (inl refl)) (view_place es (r ∷ s ∷ []) ps s (inr (inl refl))) p))
 
 -- s shows more of another component
-across : (es : List Event) → IsBoundedHistory es → (r s : Call) → IsViewOf (calls_of es) r → IsViewOf (calls_of es) s → (k j : ℕ) → shown_number s k < shown_number r k → shown_number r j < shown_number s j → Shows es (Read r s) ((k, shown_number r k) ∷ (j, shown_number s j) ∷ [])
+across : (es : List Event) → IsFittingHistory es → (r s : Call) → IsViewOf (calls_of es) r → IsViewOf (calls_of es) s → (k j : ℕ) → shown_number s k < shown_number r k → shown_number r j < shown_number s j → Shows es (Read r s) ((k, shown_number r k) ∷ (j, shown_number s j) ∷ [])
 unfolding read_fault
 across es h r s v w k j l g = made es h r s v w ps (omega arith) (two_apart k (shown_number r k) j (shown_number s j) d) covers fault
   where
@@ -87,7 +87,7 @@ across es h r s v w k j l g = made es h r s v w ps (omega arith) (two_apart k (s
         and_from _ _ (more_there es (r ∷ s ∷ []) ps h r s m n k w l (first_number k (shown_number r k) ((j, shown_number s j) ∷ [])))
         (or_right _ _ (more_there es (r ∷ s ∷ []) ps h s r n m j v g (second_number k (shown_number r k) j (shown_number s j) d)))
 
-pub read_shows : (es : List Event) → IsBoundedHistory es → (r s : Call) → IsViewOf (calls_of es) r → IsViewOf (calls_of es) s → read_fault r s ≡ true → Shows es (Read r s) (fault_updates (Read r s))
+pub read_shows : (es : List Event) → IsFittingHistory es → (r s : Call) → IsViewOf (calls_of es) r → IsViewOf (calls_of es) s → read_fault r s ≡ true → Shows es (Read r s) (fault_updates (Read r s))
 unfolding read_fault
 read_shows es h r s v w t = go (precedes r s) refl (and_parts (exceeds r s) (precedes r s || exceeds s r) t).1
   where

@@ -1,18 +1,11 @@
 -- What a view that is kept shows.
-use Rattle.std.proofs.Common.{◌≡◌, ◌≢◌, ℕ, Bool, true, false, cond, List, [], ◌∷◌, Some, None, refl, sym, ap, ◌∙◌, subst, inl, inr, arith}
+use Rattle.std.proofs.Common.{◌≡◌, ◌≢◌, ℕ, Bool, true, false, cond, List, [], ◌∷◌, Some, None, refl, sym, ap, ◌∙◌, inl, inr, arith}
 use Rattle.std.specs.Prelude.{◌==◌}
 use Rattle.std.proofs.lemmas.Bool.{eqb-true, eq-eqb, false≢true}
-use Rattle.std.proofs.lemmas.List.Elements.{All-contains}
 use Rattle.snap_core.specs.declared.entry.Entry.{Entry}
-use Rattle.snap_core.specs.declared.event.Event.{Event}
-use Rattle.snap_core.specs.declared.event.Event.TheVariants.{BeginUpdate, BeginView, EndUpdate, EndView}
 use Rattle.snap_core.specs.Entries.{AreEntries, entry_of, number_in}
-use Rattle.snap_core.specs.Events.{IsBoundedHistory, EventFits}
-use Rattle.snap_core.specs.Calls.{Call, Operation, Updates, Views, calls_of, entries_of, is_view, is_answer, shown, shown_number}
-use Rattle.snap_core.specs.Regular.{IsViewOf}
-use Rattle.snap_core.proofs.Lists.{In, Contains-from_In}
-use Rattle.snap_core.proofs.Histories.{IsEndOf, call_end, answered_part}
-use Rattle.snap_core.proofs.Members.{In-slice_get}
+use Rattle.snap_core.specs.Calls.{Call, Operation, Updates, Views, entries_of, is_view, is_answer, shown, shown_number}
+use Rattle.snap_core.proofs.Lists.{In}
 use Rattle.snap_theory.proofs.Entries.{AreSorted, sorted, sorted_tail, above, listed_first, listed_behind}
 use Rattle.snap_theory.specs.Kept.{alone, kept_entries, kept_operation, kept_call}
 
@@ -87,21 +80,6 @@ view_kept numbers (Views (Some es)) h = refl
 pub is_view_kept : (keeps : ℕ → Bool) (numbers : ℕ → ℕ) (n : ℕ) (r : Call) → is_view r ≡ true → is_view (kept_call keeps numbers n r) ≡ true
 unfolding is_view
 is_view_kept keeps numbers n r h = view_kept numbers r.operation h
-
-shape_of : (o : Operation) (x : Event) → is_answer o ≡ true → IsEndOf o x → EventFits x → AreEntries (entries_of o)
-shape_of (Updates e) x a t f = absurd (false≢true a)
-shape_of (Views o) (BeginUpdate p e) a t f = absurd t
-shape_of (Views o) (BeginView p) a t f = absurd t
-shape_of (Views o) (EndUpdate p) a t f = absurd t
-shape_of (Views o) (EndView p s) a t f = subst (λ z. AreEntries (entries_of (Views z))) (sym t) f.1
-
--- what a completed view shows is a view's entries
-pub shape : (es : List Event) → IsBoundedHistory es → (r : Call) → IsViewOf (calls_of es) r → AreEntries (entries_of r.operation)
-unfolding is_view
-shape es h r v =
-    let e = answered_part es r v in
-    let x = call_end es h.history r e.place v.there e.ends in
-    shape_of r.operation x.event v.completed x.ends (All-contains EventFits es x.event h.fit (Contains-from_In es x.event (In-slice_get es e.place x.event x.there)))
 
 -- a view that shows nothing of a component shows nothing of it
 pub shown_nothing : (keeps : ℕ → Bool) (numbers : ℕ → ℕ) (n : ℕ) (r : Call) (k : ℕ) → AreEntries (entries_of r.operation) → shown r k ≡ None → shown (kept_call keeps numbers n r) k ≡ None

@@ -4,10 +4,8 @@ use Rattle.std.specs.Prelude.{◌==◌}
 use Rattle.std.specs.List.{list_any}
 use Rattle.std.proofs.lemmas.Bool.{eq-eqb, ne_eqb, false≢true, or_cases, cases_eq}
 use Rattle.snap_core.specs.declared.event.Event.{Event}
-use Rattle.snap_core.specs.declared.event.Event.TheVariants.{BeginUpdate, BeginView, EndUpdate, EndView}
-use Rattle.snap_core.specs.Events.{IsHistory, IsBegin}
-use Rattle.snap_core.specs.Calls.{Call, Operation, Updates, Views, calls_from, calls_of}
-use Rattle.snap_core.proofs.Histories.{IsEndOf, call_end}
+use Rattle.snap_core.specs.Events.{IsBegin}
+use Rattle.snap_core.specs.Calls.{Call, calls_from, calls_of}
 use Rattle.snap_core.proofs.Lists.{Contains-from_In, any_from, any_to}
 use Rattle.snap_theory.specs.Kept.{ends_at, is_place_of, kept_event, kept_events, kept_from}
 use Rattle.snap_theory.specs.Choices.{AreChosen}
@@ -15,6 +13,8 @@ use Rattle.snap_theory.specs.Witness.{numbers_of, witness_calls, witness_of, Are
 use Rattle.snap_theory.proofs.Chosen.{ends_true}
 use Rattle.snap_theory.proofs.Kept.{from_kept, from_left, kind, begin_kept, end_kept, calls_begin, calls_end}
 use Rattle.snap_theory.proofs.Witnesses.{are_chosen}
+use Rattle.snap_theory.specs.Versions.{IsOrdered}
+use Rattle.snap_theory.proofs.Ordered.{end_event, there_ends}
 
 -- how many of n places from one on pass
 abbrev count_from : (ℕ → Bool) → ℕ → ℕ → ℕ
@@ -118,33 +118,23 @@ calls_length keeps starts numbers n r place (x ∷ es) s = go (λ n r. calls_len
         let e = ap length (ap (calls_from n r) (from_left keeps numbers place x es t)) in
         omega (arith, e, more n r)
 
-no_begin : (o : Operation) (x : Event) → IsEndOf o x → IsBegin x → ⊥
-no_begin (Updates d) (BeginUpdate p e) t b = t
-no_begin (Updates d) (BeginView p) t b = t
-no_begin (Updates d) (EndUpdate p) t b = b
-no_begin (Updates d) (EndView p s) t b = b
-no_begin (Views a) (BeginUpdate p e) t b = t
-no_begin (Views a) (BeginView p) t b = t
-no_begin (Views a) (EndUpdate p) t b = b
-no_begin (Views a) (EndView p s) t b = b
-
-starting : (es : List Event) → IsHistory es → (chosen : List Call) (numbers : ℕ → ℕ) → AreChosen chosen numbers (calls_of es) → Starting (is_place_of chosen) (begins_one chosen) 0 es
+starting : (es : List Event) → IsOrdered es → (chosen : List Call) (numbers : ℕ → ℕ) → AreChosen chosen numbers (calls_of es) → Starting (is_place_of chosen) (begins_one chosen) 0 es
 starting es h chosen numbers o i j x e g b k =
     let p = any_to (λ d. (d.begun == j) || ends_at d.ended j) chosen k in
     elim (or_cases (p.it.begun == j) (ends_at p.it.ended j) p.passes) [
       | inl t ↦ any_from (λ d. d.begun == j) chosen p.it p.there t
       | inr t ↦
-          let c = call_end es h p.it j (o.there p.it (Contains-from_In chosen p.it p.there)) (ends_true p.it.ended j t) in
-          let same : Some c.event ≡ Some x = sym c.there ∙ ap (slice_get es) (omega (arith, e)) ∙ g in
+          let c = end_event es h.well_formed p.it j (o.there p.it (Contains-from_In chosen p.it p.there)) (ends_true p.it.ended j t) in
+          let same : Some c.event ≡ Some x = sym (there_ends es j c) ∙ ap (slice_get es) (omega (arith, e)) ∙ g in
           let is : c.event ≡ x = cc in
-          absurd (no_begin p.it.operation x (subst (IsEndOf p.it.operation) is c.ends) b)
+          absurd (c.no_begin (subst IsBegin (sym is) b))
     ]
 
 pub few_events : (es : List Event) (rs : List Call) (ps : List (ℕ × ℕ)) → length (witness_of es rs ps) ≤ 2 * length (witness_calls (calls_of es) rs ps)
 unfolding witness_of kept_events
 few_events es rs ps = let chosen = witness_calls (calls_of es) rs ps in omega (arith, kept_length (is_place_of chosen) (numbers_of ps) 0 es, count_places chosen 0 (length es))
 
-pub few_kept : (es : List Event) (rs : List Call) (ps : List (ℕ × ℕ)) → IsHistory es → AreWitnesses es rs ps → length (calls_of (witness_of es rs ps)) ≤ length (witness_calls (calls_of es) rs ps)
+pub few_kept : (es : List Event) (rs : List Call) (ps : List (ℕ × ℕ)) → IsOrdered es → AreWitnesses es rs ps → length (calls_of (witness_of es rs ps)) ≤ length (witness_calls (calls_of es) rs ps)
 unfolding witness_of kept_events calls_of
 few_kept es rs ps h w =
     let chosen = witness_calls (calls_of es) rs ps in

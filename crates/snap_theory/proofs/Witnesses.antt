@@ -5,25 +5,24 @@ use Rattle.std.specs.List.{Contains}
 use Rattle.std.proofs.lemmas.Bool.{false≢true}
 use Rattle.snap_core.specs.declared.entry.Entry.{Entry}
 use Rattle.snap_core.specs.declared.event.Event.{Event}
-use Rattle.snap_core.specs.Events.{IsBoundedHistory, IsHistory}
+use Rattle.snap_core.specs.Events.{IsHistory}
 use Rattle.snap_core.specs.Calls.{Call, Operation, Updates, calls_of, precedes, is_view, is_answer, shown, shown_number, is_update_numbered}
-use Rattle.snap_core.specs.Orders.{IsAtomic}
 use Rattle.snap_core.specs.Regular.{IsViewOf}
 use Rattle.snap_core.proofs.Lists.{In, In-from_Contains, Contains-from_In, In-append_left, In-append_right, In-append_cases}
 use Rattle.snap_core.proofs.Members.{In-find}
 use Rattle.snap_core.proofs.Facts.{shown_number_at, shown_number_none, shows_positive}
-use Rattle.snap_core.proofs.Histories.{are_calls}
 use Rattle.snap_theory.specs.Updates.{update_of}
 use Rattle.snap_theory.proofs.Local.{numbered_to, numbered_from, PassesAll, all_tests}
 use Rattle.snap_theory.proofs.Backward.{legal_meets}
-use Rattle.snap_theory.proofs.Ordered.{are_ordered_calls, history_is_ordered}
-use Rattle.snap_theory.proofs.Orders.{legal_in_order}
 use Rattle.snap_theory.specs.Kept.{alone, is_place_of, kept_call, kept_events, kept_from, kept_operation}
 use Rattle.snap_theory.specs.Choices.{AreChosen, KeepsCalls}
 use Rattle.snap_theory.specs.Witness.{numbers_of, found_call, updates_kept, witness_calls, witness_of, in_witness, AreWitnesses}
-use Rattle.snap_theory.proofs.Histories.{choice_keeps_calls}
+use Rattle.snap_theory.proofs.Histories.{ordered_choice_keeps_calls}
 use Rattle.snap_theory.proofs.Chosen.{chosen_is_choice, begun_chosen}
-use Rattle.snap_theory.proofs.Shown.{shown_kept, shown_left, is_view_kept, shape}
+use Rattle.snap_theory.proofs.Shown.{shown_kept, shown_left, is_view_kept}
+use Rattle.snap_theory.proofs.Components.{fit_views}
+use Rattle.snap_theory.specs.Versions.{IsOrdered, IsAtomicInOrder}
+use Rattle.snap_theory.proofs.Ordered.{IsFittingHistory, are_ordered_calls, history_is_ordered}
 
 pub find_there : {X : Type 0} (f : X → Bool) (xs : List X) (c : X) → In c xs → f c ≡ true → (y : X) × (find f xs ≡ Some y)
 find_there f [] c i t = absurd i
@@ -54,7 +53,7 @@ paired calls (p ∷ ps) c i = go (update_of calls p.0 p.1) refl (In-append_cases
         same (inr b) = absurd b
     go o e (inr j) more = let r = more j in record { pair = r.pair; listed = inr r.listed; there = r.there; is = r.is }
 
-kept_update : (es : List Event) → IsHistory es → (ps : List (ℕ × ℕ)) (p : ℕ × ℕ) (c : Call) → In p ps → In c (calls_of es) → is_update_numbered p.0 p.1 c ≡ true → In c (updates_kept (calls_of es) ps)
+kept_update : (es : List Event) → IsOrdered es → (ps : List (ℕ × ℕ)) (p : ℕ × ℕ) (c : Call) → In p ps → In c (calls_of es) → is_update_numbered p.0 p.1 c ≡ true → In c (updates_kept (calls_of es) ps)
 kept_update es h [] p c i j t = absurd i
 kept_update es h (q ∷ ps) p c (inl e) j t =
     let u : is_update_numbered q.0 q.1 c ≡ true = ap (λ (z : ℕ × ℕ). is_update_numbered z.0 z.1 c) e ∙ t in
@@ -62,7 +61,7 @@ kept_update es h (q ∷ ps) p c (inl e) j t =
     let g = In-find (is_update_numbered q.0 q.1) (calls_of es) f.0 f.1 in
     let a = numbered_to (calls_of es) q.0 q.1 f.0 g.0 g.1 in
     let b = numbered_to (calls_of es) q.0 q.1 c j u in
-    let s : f.0 ≡ c = (are_calls es h).one f.0 c a.entry b.entry a.update b.update (a.component ∙ sym b.component) (a.number ∙ sym b.number) in
+    let s : f.0 ≡ c = (are_ordered_calls es h).one f.0 c a.entry b.entry a.update b.update (a.component ∙ sym b.component) (a.number ∙ sym b.number) in
     In-append_left c (found_call (update_of (calls_of es) q.0 q.1)) (updates_kept (calls_of es) ps) (subst (λ z. In c (found_call z)) (sym f.1) (inl s))
 kept_update es h (q ∷ ps) p c (inr i) j t = In-append_right c (found_call (update_of (calls_of es) q.0 q.1)) (updates_kept (calls_of es) ps) (kept_update es h ps p c i j t)
 
@@ -77,7 +76,7 @@ few_calls calls (p ∷ ps) = omega (arith, few_calls calls ps, length-append (fo
 view_writes : (o : Operation) (e : Entry) → is_answer o ≡ true → o ≡ Updates e → ⊥
 view_writes o e a w = false≢true (sym (ap is_answer w) ∙ a)
 
-pub are_chosen : (es : List Event) (rs : List Call) (ps : List (ℕ × ℕ)) → IsHistory es → AreWitnesses es rs ps → AreChosen (witness_calls (calls_of es) rs ps) (numbers_of ps) (calls_of es)
+pub are_chosen : (es : List Event) (rs : List Call) (ps : List (ℕ × ℕ)) → IsOrdered es → AreWitnesses es rs ps → AreChosen (witness_calls (calls_of es) rs ps) (numbers_of ps) (calls_of es)
 unfolding witness_calls is_view
 are_chosen es rs ps h w = record {
   there = λ c i. there c (In-append_cases c rs (updates_kept (calls_of es) ps) (In-from_Contains (rs ++ updates_kept (calls_of es) ps) c i));
@@ -98,19 +97,22 @@ are_chosen es rs ps h w = record {
         let a = w.apart p.pair (Contains-from_In ps p.pair p.listed) in
         ap (λ (z : Entry). z.number) (sym f) ∙ n.number ∙ sym a ∙ ap (numbers_of ps) (sym n.component) ∙ ap (λ (z : Entry). numbers_of ps z.component) f
 
-pub keeps_calls : (es : List Event) (rs : List Call) (ps : List (ℕ × ℕ)) → IsHistory es → AreWitnesses es rs ps → KeepsCalls (is_place_of (witness_calls (calls_of es) rs ps)) (numbers_of ps) es
-keeps_calls es rs ps h w = choice_keeps_calls (is_place_of (witness_calls (calls_of es) rs ps)) (numbers_of ps) es h (chosen_is_choice es h (witness_calls (calls_of es) rs ps) (numbers_of ps) (are_chosen es rs ps h w))
+pub keeps_calls : (es : List Event) (rs : List Call) (ps : List (ℕ × ℕ)) → IsOrdered es → AreWitnesses es rs ps → KeepsCalls (is_place_of (witness_calls (calls_of es) rs ps)) (numbers_of ps) es
+keeps_calls es rs ps h w = ordered_choice_keeps_calls (is_place_of (witness_calls (calls_of es) rs ps)) (numbers_of ps) es h (chosen_is_choice es h (witness_calls (calls_of es) rs ps) (numbers_of ps) (are_chosen es rs ps h w))
+
+pub ordered_witness_history : (es : List Event) (rs : List Call) (ps : List (ℕ × ℕ)) → IsOrdered es → AreWitnesses es rs ps → IsHistory (witness_of es rs ps)
+unfolding witness_of kept_events
+ordered_witness_history es rs ps h w = (keeps_calls es rs ps h w).history
 
 pub witness_history : (es : List Event) (rs : List Call) (ps : List (ℕ × ℕ)) → IsHistory es → AreWitnesses es rs ps → IsHistory (witness_of es rs ps)
-unfolding witness_of kept_events
-witness_history es rs ps h w = (keeps_calls es rs ps h w).history
+witness_history es rs ps h w = ordered_witness_history es rs ps (history_is_ordered es h) w
 
 -- where the calls of the witness stand
 pub view_place : (es : List Event) (rs : List Call) (ps : List (ℕ × ℕ)) (r : Call) → In r rs → is_place_of (witness_calls (calls_of es) rs ps) r.begun ≡ true
 unfolding witness_calls
 view_place es rs ps r i = begun_chosen (rs ++ updates_kept (calls_of es) ps) r (In-append_left r rs (updates_kept (calls_of es) ps) i)
 
-pub update_place : (es : List Event) (rs : List Call) (ps : List (ℕ × ℕ)) → IsHistory es → (p : ℕ × ℕ) (c : Call) → In p ps → In c (calls_of es) → is_update_numbered p.0 p.1 c ≡ true → is_place_of (witness_calls (calls_of es) rs ps) c.begun ≡ true
+pub update_place : (es : List Event) (rs : List Call) (ps : List (ℕ × ℕ)) → IsOrdered es → (p : ℕ × ℕ) (c : Call) → In p ps → In c (calls_of es) → is_update_numbered p.0 p.1 c ≡ true → is_place_of (witness_calls (calls_of es) rs ps) c.begun ≡ true
 unfolding witness_calls
 update_place es rs ps h p c i j t = begun_chosen (rs ++ updates_kept (calls_of es) ps) c (In-append_right c rs (updates_kept (calls_of es) ps) (kept_update es h ps p c i j t))
 
@@ -118,7 +120,7 @@ pub record ViewKept (es : List Event) (rs : List Call) (ps : List (ℕ × ℕ)) 
   pub number : ℕ
   pub view : IsViewOf (calls_of (witness_of es rs ps)) (in_witness es rs ps number r)
 
-pub view_there : (es : List Event) (rs : List Call) (ps : List (ℕ × ℕ)) → IsHistory es → AreWitnesses es rs ps → (r : Call) → In r rs → ViewKept es rs ps r
+pub view_there : (es : List Event) (rs : List Call) (ps : List (ℕ × ℕ)) → IsOrdered es → AreWitnesses es rs ps → (r : Call) → In r rs → ViewKept es rs ps r
 unfolding witness_of kept_events in_witness
 view_there es rs ps h w r i =
     let v = w.views r (Contains-from_In rs r i) in
@@ -130,7 +132,7 @@ pub record UpdateKept (es : List Event) (rs : List Call) (ps : List (ℕ × ℕ)
   pub there : In (in_witness es rs ps number c) (calls_of (witness_of es rs ps))
   pub is : is_update_numbered k 1 (in_witness es rs ps number c) ≡ true
 
-pub update_there : (es : List Event) (rs : List Call) (ps : List (ℕ × ℕ)) → IsHistory es → AreWitnesses es rs ps → (p : ℕ × ℕ) (c : Call) → In p ps → In c (calls_of es) → is_update_numbered p.0 p.1 c ≡ true → UpdateKept es rs ps p.0 c
+pub update_there : (es : List Event) (rs : List Call) (ps : List (ℕ × ℕ)) → IsOrdered es → AreWitnesses es rs ps → (p : ℕ × ℕ) (c : Call) → In p ps → In c (calls_of es) → is_update_numbered p.0 p.1 c ≡ true → UpdateKept es rs ps p.0 c
 unfolding witness_of kept_events in_witness
 update_there es rs ps h w p c i j t =
     let keeps = is_place_of (witness_calls (calls_of es) rs ps) in
@@ -142,7 +144,7 @@ update_there es rs ps h w p c i j t =
       is = numbered_from p.0 1 (kept_call keeps (numbers_of ps) e.0 c) (alone n.entry) (ap (kept_operation (numbers_of ps)) n.update.writes) n.component refl;
     }
 
-pub precedence_there : (es : List Event) (rs : List Call) (ps : List (ℕ × ℕ)) → IsHistory es → AreWitnesses es rs ps → (a b : Call) (m n : ℕ) → In a (calls_of es) → In b (calls_of es) →
+pub precedence_there : (es : List Event) (rs : List Call) (ps : List (ℕ × ℕ)) → IsOrdered es → AreWitnesses es rs ps → (a b : Call) (m n : ℕ) → In a (calls_of es) → In b (calls_of es) →
     is_place_of (witness_calls (calls_of es) rs ps) a.begun ≡ true → is_place_of (witness_calls (calls_of es) rs ps) b.begun ≡ true → precedes a b ≡ true → precedes (in_witness es rs ps m a) (in_witness es rs ps n b) ≡ true
 unfolding in_witness
 precedence_there es rs ps h w a b m n i j k l p = (keeps_calls es rs ps h w).precedence a b m n (Contains-from_In (calls_of es) a i) (Contains-from_In (calls_of es) b j) k l ∙ p
@@ -155,15 +157,15 @@ shows_one es rs ps n r k l e =
     let keeps = is_place_of (witness_calls (calls_of es) rs ps) in
     shown_number_at (kept_call keeps (numbers_of ps) n r) k (alone s.entry) (shown_kept keeps (numbers_of ps) n r k s.entry s.is (sym (shown_number_at r k s.entry s.is) ∙ sym e))
 
-pub shows_none : (es : List Event) (rs : List Call) (ps : List (ℕ × ℕ)) → IsBoundedHistory es → (n : ℕ) (r : Call) (k : ℕ) → IsViewOf (calls_of es) r → shown_number r k ≢ numbers_of ps k → shown_number (in_witness es rs ps n r) k ≡ 0
+pub shows_none : (es : List Event) (rs : List Call) (ps : List (ℕ × ℕ)) → IsFittingHistory es → (n : ℕ) (r : Call) (k : ℕ) → IsViewOf (calls_of es) r → shown_number r k ≢ numbers_of ps k → shown_number (in_witness es rs ps n r) k ≡ 0
 unfolding in_witness
 shows_none es rs ps h n r k v d =
     let keeps = is_place_of (witness_calls (calls_of es) rs ps) in
-    shown_number_none (kept_call keeps (numbers_of ps) n r) k (shown_left keeps (numbers_of ps) n r k (shape es h r v) d)
+    shown_number_none (kept_call keeps (numbers_of ps) n r) k (shown_left keeps (numbers_of ps) n r k (fit_views es h.fit r v.there) d)
 
--- an atomic history passes every test
-pub atomic_passes : (es : List Event) → IsHistory es → IsAtomic (calls_of es) → PassesAll (calls_of es)
-atomic_passes es h a = all_tests (calls_of es) (legal_meets (calls_of es) a.0 (are_ordered_calls es (history_is_ordered es h)) (legal_in_order (calls_of es) a.0 (are_calls es h) a.1))
+-- an ordered history that is atomic in order passes every test
+pub atomic_passes : (es : List Event) → IsOrdered es → IsAtomicInOrder (calls_of es) → PassesAll (calls_of es)
+atomic_passes es h a = all_tests (calls_of es) (legal_meets (calls_of es) a.0 (are_ordered_calls es h) a.1)
 
 -- the call that a call of the witness was
 pub record OriginOf (es : List Event) (ps : List (ℕ × ℕ)) (d : Call) : Type 0 where
@@ -172,7 +174,7 @@ pub record OriginOf (es : List Event) (ps : List (ℕ × ℕ)) (d : Call) : Type
   pub operation : d.operation ≡ kept_operation (numbers_of ps) call.operation
   pub numbered : (e : Entry) → call.operation ≡ Updates e → e.number ≡ numbers_of ps e.component
 
-pub origin_of : (es : List Event) (rs : List Call) (ps : List (ℕ × ℕ)) → IsHistory es → AreWitnesses es rs ps → (d : Call) → In d (calls_of (witness_of es rs ps)) → OriginOf es ps d
+pub origin_of : (es : List Event) (rs : List Call) (ps : List (ℕ × ℕ)) → IsOrdered es → AreWitnesses es rs ps → (d : Call) → In d (calls_of (witness_of es rs ps)) → OriginOf es ps d
 unfolding witness_of kept_events
 origin_of es rs ps h w d i =
     let chosen = witness_calls (calls_of es) rs ps in

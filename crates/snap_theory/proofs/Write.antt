@@ -3,30 +3,28 @@ use Rattle.std.proofs.Common.{◌≡◌, ◌≢◌, ℕ, suc, ◌<◌, ◌≤◌
 use Rattle.std.specs.List.{list_any}
 use Rattle.std.proofs.lemmas.Bool.{and_parts, and_from}
 use Rattle.snap_core.specs.declared.event.Event.{Event}
-use Rattle.snap_core.specs.Events.{IsBoundedHistory, IsHistory}
 use Rattle.snap_core.specs.Calls.{Call, calls_of, precedes, shown_number, is_update_numbered}
 use Rattle.snap_core.specs.Regular.{IsViewOf}
 use Rattle.snap_core.proofs.Lists.{In, any_from, any_to, Passes}
 use Rattle.snap_core.proofs.Facts.{precedes_to}
-use Rattle.snap_core.proofs.Histories.{are_calls}
 use Rattle.snap_theory.specs.Faults.{write_fault}
 use Rattle.snap_theory.proofs.Local.{IsNumbered, numbered_to}
 use Rattle.snap_theory.specs.FaultWitnesses.{Write, fault_updates}
 use Rattle.snap_theory.specs.Witness.{witness_of, in_witness, AreWitnesses}
 use Rattle.snap_theory.proofs.Pairs.{Shows, Covers, of_one, two_apart, first_number, second_number, witnesses, covers_two}
 use Rattle.snap_theory.proofs.Witnesses.{shows_one, shows_none, precedence_there, update_place, ViewKept, view_there, UpdateKept, update_there}
+use Rattle.snap_theory.specs.Versions.{IsOrdered}
+use Rattle.snap_theory.proofs.Ordered.{IsFittingHistory, are_ordered_calls}
 
 -- the missed and the shown update are of two components
-apart_of_write : (es : List Event) → IsHistory es → (a b : Call) (j k m n : ℕ) → IsNumbered (calls_of es) j m a → IsNumbered (calls_of es) k n b → precedes a b ≡ true → (j ≡ k → n < m) → j ≢ k
+apart_of_write : (es : List Event) → IsOrdered es → (a b : Call) (j k m n : ℕ) → IsNumbered (calls_of es) j m a → IsNumbered (calls_of es) k n b → precedes a b ≡ true → (j ≡ k → n < m) → j ≢ k
 apart_of_write es h a b j k m n x y p l e =
-    let g = (are_calls es h).follows b a y.entry x.entry y.update x.update (y.component ∙ sym e ∙ sym x.component) (let q = l e in omega (arith, q, x.number, y.number)) in
+    let f = are_ordered_calls es h in
+    let l' = f.begins b a y.entry x.entry y.update x.update (y.component ∙ sym e ∙ sym x.component) (let q = l e in omega (arith, q, x.number, y.number)) in
     let s = precedes_to a b p in
-    let t = precedes_to b a g in
-    let u = (are_calls es h).rises a s.place x.update.there s.ends in
-    let v = (are_calls es h).rises b t.place y.update.there t.ends in
-    omega (arith, u, v, s.before, t.before)
+    omega (arith, l', f.rises a s.place x.update.there s.ends, s.before)
 
-pub write_shows : (es : List Event) → IsBoundedHistory es → (r : Call) (j k : ℕ) → IsViewOf (calls_of es) r → write_fault (calls_of es) r j k ≡ true → Shows es (Write r j k) (fault_updates (Write r j k))
+pub write_shows : (es : List Event) → IsFittingHistory es → (r : Call) (j k : ℕ) → IsViewOf (calls_of es) r → write_fault (calls_of es) r j k ≡ true → Shows es (Write r j k) (fault_updates (Write r j k))
 unfolding write_fault
 write_shows es h r j k v t = record { are = w; few = omega arith; fault = (x.number, 0, (x.view, fault)); covers = λ _. covers }
   where
@@ -55,7 +53,7 @@ write_shows es h r j k v t = record { are = w; few = omega arith; fault = (x.num
     shows = numbered_to (calls_of es) k (shown_number r k) d.it d.there d_is
 
     other : j ≢ k
-    other = apart_of_write es h.history c.it d.it j k (suc (shown_number r j)) (shown_number r k) missed shows before (λ e. let q : shown_number r j ≡ shown_number r k = ap (shown_number r) e in omega (arith, q))
+    other = apart_of_write es h.ordered c.it d.it j k (suc (shown_number r j)) (shown_number r k) missed shows before (λ e. let q : shown_number r j ≡ shown_number r k = ap (shown_number r) e in omega (arith, q))
 
     w : AreWitnesses es (r ∷ []) ps
     w = witnesses es (r ∷ []) ps (of_one (IsViewOf (calls_of es)) r v) (two_apart j (suc (shown_number r j)) k (shown_number r k) other)
@@ -64,7 +62,7 @@ write_shows es h r j k v t = record { are = w; few = omega arith; fault = (x.num
     covers c p i = of_one (λ c. (p : ℕ × ℕ) → In p ps → shown_number c p.0 ≤ p.1) r (covers_two r j (suc (shown_number r j)) k (shown_number r k) (omega arith) (omega arith)) c i p
 
     x : ViewKept es (r ∷ []) ps r
-    x = view_there es (r ∷ []) ps h.history w r (inl refl)
+    x = view_there es (r ∷ []) ps h.ordered w r (inl refl)
 
     R : Call
     R = in_witness es (r ∷ []) ps x.number r
@@ -73,10 +71,10 @@ write_shows es h r j k v t = record { are = w; few = omega arith; fault = (x.num
     W = calls_of (witness_of es (r ∷ []) ps)
 
     a : UpdateKept es (r ∷ []) ps j c.it
-    a = update_there es (r ∷ []) ps h.history w (j, suc (shown_number r j)) c.it (inl refl) c.there c_is
+    a = update_there es (r ∷ []) ps h.ordered w (j, suc (shown_number r j)) c.it (inl refl) c.there c_is
 
     b : UpdateKept es (r ∷ []) ps k d.it
-    b = update_there es (r ∷ []) ps h.history w (k, shown_number r k) d.it (inr (inl refl)) d.there d_is
+    b = update_there es (r ∷ []) ps h.ordered w (k, shown_number r k) d.it (inr (inl refl)) d.there d_is
 
     A : Call
     A = in_witness es (r ∷ []) ps a.number c.it
@@ -89,14 +87,14 @@ write_shows es h r j k v t = record { are = w; few = omega arith; fault = (x.num
 
     one : shown_number R k ≡ 1
     one =
-        let z = (are_calls es h.history).positive d.it shows.entry shows.update in
+        let z = (are_ordered_calls es h.ordered).positive d.it shows.entry shows.update in
         shows_one es (r ∷ []) ps x.number r k (omega (arith, z, shows.number)) (second_number j (suc (shown_number r j)) k (shown_number r k) other)
 
     kept_before : precedes A B ≡ true
     kept_before =
-        precedence_there es (r ∷ []) ps h.history w c.it d.it a.number b.number c.there d.there
-        (update_place es (r ∷ []) ps h.history (j, suc (shown_number r j)) c.it (inl refl) c.there c_is)
-        (update_place es (r ∷ []) ps h.history (k, shown_number r k) d.it (inr (inl refl)) d.there d_is) before
+        precedence_there es (r ∷ []) ps h.ordered w c.it d.it a.number b.number c.there d.there
+        (update_place es (r ∷ []) ps h.ordered (j, suc (shown_number r j)) c.it (inl refl) c.there c_is)
+        (update_place es (r ∷ []) ps h.ordered (k, shown_number r k) d.it (inr (inl refl)) d.there d_is) before
 
     fault : write_fault W R j k ≡ true
     fault =

@@ -1,12 +1,14 @@
 -- What holds of ordered histories, in which several processes may write a component, whatever the length of the history.
-use Rattle.std.specs.Prelude.{ℕ, true, List, map, ◌≡◌, ◌↔◌, All, Contains}
+use Rattle.std.specs.Prelude.{ℕ, Bool, true, List, map, ◌≡◌, ◌↔◌, All, Contains}
 use Rattle.snap_core.specs.declared.event.Event.{Event}
 use Rattle.snap_core.specs.Events.{IsHistory, HasByteComponents, EventFits}
 use Rattle.snap_core.specs.Calls.{Call, calls_of, is_update_numbered}
 use Rattle.snap_core.specs.Monotone.{IsMonotone}
 use Rattle.snap_core.specs.Orders.{IsLegalOrder, IsAtomic}
 use Rattle.snap_core.specs.Regular.{IsRegular}
+use Rattle.snap_theory.specs.Choices.{IsChoice, KeepsCalls}
 use Rattle.snap_theory.specs.Conditions.{MeetsConditions}
+use Rattle.snap_theory.specs.FaultWitnesses.{Fault, IsFaultOf, IsWitness, HasWitness}
 use Rattle.snap_theory.specs.Faults.{HasNoLocalFault, HasNoFault}
 use Rattle.snap_theory.specs.Keys.{AreSortedKeys}
 use Rattle.snap_theory.specs.Levels.{printed_order, IsPrintedOrder}
@@ -66,3 +68,15 @@ OrderedUpdatesAreAlone = (events : List Event) → IsOrdered events → (k n : �
 -- the faults of an ordered history whose fields fit their types rise strictly
 abbrev pub OrderedFaultsRise : Type 0
 OrderedFaultsRise = (events : List Event) → IsOrdered events → All EventFits events → FaultsRise (calls_of events)
+
+-- what is kept of an ordered history is a history with one writer of each component, since of each it has one update
+abbrev pub OrderedChoiceKeepsCalls : Type 0
+OrderedChoiceKeepsCalls = (keeps : ℕ → Bool) (numbers : ℕ → ℕ) (events : List Event) → IsOrdered events → IsChoice keeps numbers (calls_of events) → KeepsCalls keeps numbers events
+
+-- each fault of an ordered history whose fields fit their types has a witness
+abbrev pub OrderedFaultHasWitness : Type 0
+OrderedFaultHasWitness = (events : List Event) → IsOrdered events → All EventFits events → (f : Fault) → IsFaultOf (calls_of events) f → IsWitness events f
+
+-- such a history is atomic in order exactly when it has no witness
+abbrev pub AtomicInOrderWithoutWitness : Type 0
+AtomicInOrderWithoutWitness = (events : List Event) → IsOrdered events → All EventFits events → (HasWitness events → ⊥) ↔ IsAtomicInOrder (calls_of events)

@@ -1,5 +1,5 @@
 //! Laws of ordered histories: several processes may write a component, and its updates begin and end in the order of their numbers.
-ghost use Rattle.snap_theory.specs.VersionLaws.{HistoriesAreOrdered, LegalOrdersRise, AtomicIsInOrder, OrderedPrintsLegalOrder, LegalInOrderHasNoFault, AtomicInOrderExactly, OrderedConditionsExactly, OrderedRegularExactly, AtomicInOrderIsMonotone, OrderedPrintedAlone, OrderedKeysGiveOrder, OrderedUpdatesAreAlone, OrderedFaultsRise};
+ghost use Rattle.snap_theory.specs.VersionLaws.{HistoriesAreOrdered, LegalOrdersRise, AtomicIsInOrder, OrderedPrintsLegalOrder, LegalInOrderHasNoFault, AtomicInOrderExactly, OrderedConditionsExactly, OrderedRegularExactly, AtomicInOrderIsMonotone, OrderedPrintedAlone, OrderedKeysGiveOrder, OrderedUpdatesAreAlone, OrderedFaultsRise, OrderedChoiceKeepsCalls, OrderedFaultHasWitness, AtomicInOrderWithoutWitness};
 
 /// A history, with one writer of each component, is ordered. In each of its legal orders the numbers of each component rise, so
 /// it is atomic in order exactly when it is atomic.
@@ -35,4 +35,12 @@ pub fn ordered_printed_order_is_alone()
 pub fn ordered_faults_rise()
     ensures rise { OrderedFaultsRise }
     ensures alone { OrderedUpdatesAreAlone }
+{}
+
+/// Each fault of an ordered history has a witness of at most four of its calls, which is a history with one writer of each
+/// component. Without a witness an ordered history is atomic in order.
+pub fn ordered_faults_have_witnesses()
+    ensures calls { OrderedChoiceKeepsCalls }
+    ensures each { OrderedFaultHasWitness }
+    ensures atomic { AtomicInOrderWithoutWitness }
 {}
