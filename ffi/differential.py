@@ -30,12 +30,17 @@ HEADER = "event,process,op,data"
 CALLS = (
     ("explain", 0, ["explain"]),
     ("explain", 1, ["explain", "--draw"]),
+    ("explain", 2, ["explain", "--all"]),
+    ("explain", 3, ["explain", "--all", "--draw"]),
     ("json", b"-", ["check", "--format", "json"]),
     ("shrink", 0, ["shrink"]),
     ("shrink", 1, ["shrink", "--draw"]),
     ("draw", 0, ["draw"]),
     ("draw", 1, ["draw", "--svg"]),
     ("draw", 2, ["draw", "--text"]),
+    ("draw", 3, ["draw", "--light"]),
+    ("draw", 4, ["draw", "--dark"]),
+    ("draw", 5, ["draw", "--svg", "--dark"]),
     ("stats", 0, ["stats"]),
     ("stats", 1, ["stats", "--format", "json"]),
 )
