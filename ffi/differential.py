@@ -47,11 +47,21 @@ CALLS = (
 ROOM = bytearray(1 << 20)
 
 
+def first_updates(processes, components):
+    """The records of an update of each component, one after the other."""
+    for k in range(components):
+        yield from (f"begin,{k % processes},update,{k}:1:{k + 3}", f"end,{k % processes},update,")
+
+
 def history(draw):
-    """A history whose views show what some moment between begin and end had, or at times something else."""
-    processes, components, events = draw.randint(1, 6), draw.randint(1, 5), draw.randint(0, 40)
+    """A history whose views show what some moment between begin and end had, or at times something else. One of ten has views with more
+    entries than an explanation lists unasked."""
+    is_wide = draw.random() < 0.1
+    processes, events = draw.randint(1, 6), draw.randint(0, 40)
+    components = draw.randint(17, 24) if is_wide else draw.randint(1, 5)
     wrong = draw.choice((0, 0, 0.05, 0.3))
-    begun, done, rows, state = [0] * components, [0] * components, [], {}
+    begun, done, state = [int(is_wide)] * components, [int(is_wide)] * components, {}
+    rows = list(first_updates(processes, components)) if is_wide else []
     for _ in range(events):
         p = draw.randrange(processes)
         if p not in state:
