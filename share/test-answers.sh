@@ -179,6 +179,7 @@ expect "all entries" 2 "$(said_of_wide "$entries")
 expect "all entries, and a picture below" 0 "" sh -c './second explain --all wide.csv >all
 ./second explain --all --draw wide.csv >drawn
 head -c "$(wc -c <all)" drawn | cmp - all && grep -q "^calls drawn 2, left out 16$" drawn'
+rm -f wide.csv all drawn
 expect "all entries of an example, which has few" 1 "$(./second explain old.csv)
 " ./second explain --all old.csv
 
@@ -212,6 +213,7 @@ done
 expect "a dark picture" 0 "" sh -c './second draw --svg --dark old.csv | grep -qF "<pattern id=\"snapjudge-dark\""'
 expect "a picture is light, if nothing else is asked for" 0 "" sh -c './second draw --svg old.csv >light
 ./second draw --svg --light old.csv | cmp - light'
+rm -f light
 for scheme in light dark; do
   expect "a page in a scheme" 0 "" sh -c './second draw --$1 old.csv | grep -q "^:root { color-scheme: $1; "' sh $scheme
 done
