@@ -30,23 +30,38 @@ HEADER = "event,process,op,data"
 CALLS = (
     ("explain", 0, ["explain"]),
     ("explain", 1, ["explain", "--draw"]),
+    ("explain", 2, ["explain", "--all"]),
+    ("explain", 3, ["explain", "--all", "--draw"]),
     ("json", b"-", ["check", "--format", "json"]),
     ("shrink", 0, ["shrink"]),
     ("shrink", 1, ["shrink", "--draw"]),
     ("draw", 0, ["draw"]),
     ("draw", 1, ["draw", "--svg"]),
     ("draw", 2, ["draw", "--text"]),
+    ("draw", 3, ["draw", "--light"]),
+    ("draw", 4, ["draw", "--dark"]),
+    ("draw", 5, ["draw", "--svg", "--dark"]),
     ("stats", 0, ["stats"]),
     ("stats", 1, ["stats", "--format", "json"]),
 )
 ROOM = bytearray(1 << 20)
 
 
+def first_updates(processes, components):
+    """The records of an update of each component, one after the other."""
+    for k in range(components):
+        yield from (f"begin,{k % processes},update,{k}:1:{k + 3}", f"end,{k % processes},update,")
+
+
 def history(draw):
-    """A history whose views show what some moment between begin and end had, or at times something else."""
-    processes, components, events = draw.randint(1, 6), draw.randint(1, 5), draw.randint(0, 40)
+    """A history whose views show what some moment between begin and end had, or at times something else. One of ten has views with more
+    entries than an explanation lists unasked."""
+    is_wide = draw.random() < 0.1
+    processes, events = draw.randint(1, 6), draw.randint(0, 40)
+    components = draw.randint(17, 24) if is_wide else draw.randint(1, 5)
     wrong = draw.choice((0, 0, 0.05, 0.3))
-    begun, done, rows, state = [0] * components, [0] * components, [], {}
+    begun, done, state = [int(is_wide)] * components, [int(is_wide)] * components, {}
+    rows = list(first_updates(processes, components)) if is_wide else []
     for _ in range(events):
         p = draw.randrange(processes)
         if p not in state:

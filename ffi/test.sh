@@ -40,7 +40,8 @@ by_program() {
   local example question words status
   rm -rf "$1" && mkdir -p "$1" || return 1
   for example in ../examples/*.csv; do
-    for question in "check" "explain" "explain --draw" "check --format json" "shrink" "shrink --draw" "draw" "draw --svg" "draw --text" "stats" "stats --format json"; do
+    for question in "check" "explain" "explain --draw" "explain --all" "explain --all --draw" "check --format json" "shrink" "shrink --draw" \
+      "draw" "draw --svg" "draw --text" "draw --light" "draw --dark" "draw --svg --dark" "stats" "stats --format json"; do
       read -ra words <<<"$question"
       case $question in
         check*json)

@@ -17,9 +17,10 @@ _snapjudge() {
     check | shrink | explain | draw | stats)
       words=--help
       [[ ${COMP_WORDS[1]} != check ]] || words='--pieces --workers --files-from --null --recursive --quiet -q --views --events --format --summary --follow --window --idle --no-progress --color --help'
-      [[ ${COMP_WORDS[1]} != draw ]] || words='--svg --text --events --help'
+      [[ ${COMP_WORDS[1]} != draw ]] || words='--svg --text --light --dark --events --help'
       [[ ${COMP_WORDS[1]} != stats ]] || words='--format --events --help'
-      [[ ${COMP_WORDS[1]} != @(shrink|explain) ]] || words='--draw --events --help'
+      [[ ${COMP_WORDS[1]} != shrink ]] || words='--draw --events --help'
+      [[ ${COMP_WORDS[1]} != explain ]] || words='--draw --all --events --help'
       [[ $word == -* ]] || { mapfile -t COMPREPLY < <(compgen -f -- "$word"); return; }
       ;;
     record) words='--workers --rounds --events --seed --scan --judge --stamped --help' ;;

@@ -15,6 +15,8 @@ tells "shrink --help" "snapjudge shrink [OPTIONS] [FILE]"
 tells "explain old.csv --help" "snapjudge explain [OPTIONS] [FILE]"
 tells "stats old.csv --help" "snapjudge stats [OPTIONS] [FILE]..."
 tells "draw --svg --help" "snapjudge draw [OPTIONS] [FILE]"
+tells "draw --dark --help" "Draw with light ink on a dark ground"
+tells "explain --all --help" "List all entries of the views of a fault"
 for file in old.csv none.csv; do
   expect "$file without a command" 5 "" ./second $file
   expect_said "the tip" "error: to judge a file, write: snapjudge check $file"
@@ -157,6 +159,30 @@ read: view 3 shows more of component 0 than view 4, and less of component 1
   esac
   expect "the explanation of $name" "$status" "$said" ./second explain "$history"
 done
+# A view of 17 entries, of which one has a value that nobody wrote.
+{
+  echo event,process,op,data
+  for number in $(seq 0 16); do
+    printf 'begin,%s,update,%s:1:7\nend,%s,update,\n' "$number" "$number" "$number"
+  done
+  entries=0:1:8$(seq -f ' %.0f:1:7' -s '' 16)
+  printf 'begin,20,view,\nend,20,view,%s\n' "$entries"
+} >wide.csv
+said_of_wide() {
+  printf '%s\n' "not regular" "integrity: view 18 shows 0:1:8, which no update wrote" "  call 18 of process 20, records 36 and 37: view $1" \
+    "  call 1 of process 0, records 2 and 3: update 0:1:7"
+}
+expect "the entries of the fault" 2 "$(said_of_wide "0:1:8 and 16 more entries")
+" ./second explain wide.csv
+expect "all entries" 2 "$(said_of_wide "$entries")
+" ./second explain --all wide.csv
+expect "all entries, and a picture below" 0 "" sh -c './second explain --all wide.csv >all
+./second explain --all --draw wide.csv >drawn
+head -c "$(wc -c <all)" drawn | cmp - all && grep -q "^calls drawn 2, left out 16$" drawn'
+rm -f wide.csv all drawn
+expect "all entries of an example, which has few" 1 "$(./second explain old.csv)
+" ./second explain --all old.csv
+
 refused_empty="refused record 1: header
 the first record is event,process,op,data, or at,event,process,op,data where records have stamps
   no record of the text has that number
@@ -164,6 +190,8 @@ the first record is event,process,op,data, or at,event,process,op,data where rec
 expect "a picture of standard input" 3 "$refused_empty" ./second draw
 expect "a refused text, and draw --text" 3 "$refused_empty" ./second draw --text
 expect "a refused text, and explain --draw" 3 "$refused_empty" ./second explain --draw
+expect "a refused text, and explain --all" 3 "$refused_empty" ./second explain --all
+expect "a refused text, and draw --dark" 3 "$refused_empty" ./second draw --dark
 expect "a refused text, and shrink --draw" 3 "refused record 1: header
 " ./second shrink --draw
 for log in '{:type :invoke, :f :read}' '[{:type :invoke, :f :read}]'; do
@@ -176,6 +204,22 @@ the first record is event,process,op,data, or at,event,process,op,data where rec
 done
 expect "a picture in two forms" 5 "" ./second draw --svg --text old.csv
 expect_said "the reason" "error: the argument '--svg' cannot be used with '--text'"
+expect "a picture in two schemes" 5 "" ./second draw --light --dark old.csv
+expect_said "the reason" "error: the argument '--light' cannot be used with '--dark'"
+for scheme in light dark; do
+  expect "characters in a scheme" 5 "" ./second draw --text --$scheme old.csv
+  expect_said "the reason" "error: the argument '--$scheme' cannot be used with '--text'"
+done
+expect "a dark picture" 0 "" sh -c './second draw --svg --dark old.csv | grep -qF "<pattern id=\"snapjudge-dark\""'
+expect "a picture is light, if nothing else is asked for" 0 "" sh -c './second draw --svg old.csv >light
+./second draw --svg --light old.csv | cmp - light'
+rm -f light
+for scheme in light dark; do
+  expect "a page in a scheme" 0 "" sh -c './second draw --$1 old.csv | grep -q "^:root { color-scheme: $1; "' sh $scheme
+done
+expect "a witness with all entries" 5 "" ./second shrink --all old.csv
+cp err help
+expect "the reason" 0 "" grep -qF "unexpected argument '--all'" help
 expect "a picture of a file that is not there" 4 "" ./second draw --svg none.csv
 expect "a picture of two files" 5 "" ./second draw old.csv "a b.csv"
 cp err help

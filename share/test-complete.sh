@@ -30,8 +30,10 @@ for shell in bash zsh fish; do
   completes "snapjudge check --quiet --pi" --pieces
   completes "snapjudge record --" "--events --help --judge --rounds --scan --seed --stamped --workers"
   completes "snapjudge record --scan --r" --rounds
-  completes "snapjudge draw --" "--events --help --svg --text"
+  completes "snapjudge draw --" "--dark --events --help --light --svg --text"
+  completes "snapjudge draw --svg --d" --dark
   completes "snapjudge shrink --" "--draw --events --help"
+  completes "snapjudge explain --" "--all --draw --events --help"
   completes "snapjudge explain --d" --draw
   completes "snapjudge stats --" "--events --format --help"
   completes "snapjudge stats --format " "json plain"

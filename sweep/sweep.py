@@ -152,7 +152,7 @@ def draw(name, text, report):
 
 
 def picture(words, name, text, report):
-    """A picture by lines, or as SVG, as the program gives it if nothing fails."""
+    """A picture by lines or as SVG, or an explanation with an option, as the program gives it if nothing fails."""
     run = subprocess.run([PROGRAM, *words], input=text, capture_output=True, timeout=LIMIT)
     whole = status_of(report), run.stdout, b""
     return Case(" ".join([*words, name]), words, text, lambda run: run == whole, run.stdout)
@@ -565,7 +565,8 @@ def main(folder):
     worked = [check(*each) for each in given + small] + others
     chosen = [each for each in given if each[0] in ("atomic-run", "new-old-inversion")]
     several_files = list(files_of(folder, chosen))
-    pictures = [picture(words, *each) for words in (["draw", "--text"], ["explain", "--draw"], ["shrink", "--draw"]) for each in chosen]
+    drawn = ["draw", "--text"], ["draw", "--svg", "--dark"], ["explain", "--all"], ["explain", "--draw"], ["shrink", "--draw"]
+    pictures = [picture(words, *each) for words in drawn for each in chosen]
     colors = [colored(*each) for each in chosen]
     in_pieces = check(*updates_alone(21000), 2)
     checks += shared + [in_pieces] + [made(*each) for made in (object_of, document_of) for each in chosen] + several_files + pictures + colors

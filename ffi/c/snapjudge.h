@@ -34,11 +34,20 @@ enum {
 /* How many events a history may have by default. */
 enum { SNAPJUDGE_EVENTS = 65536 };
 
-/* The forms of a picture. */
+/* The forms of an explanation: 0 for the sentences alone, one of these, or both together by |. */
 enum {
-    SNAPJUDGE_PAGE = 0, /* a page for a browser */
-    SNAPJUDGE_SVG = 1,  /* SVG alone */
-    SNAPJUDGE_LINES = 2 /* characters */
+    SNAPJUDGE_DRAWN = 1, /* a picture in characters is below */
+    SNAPJUDGE_WHOLE = 2  /* all entries of the views of a fault are listed */
+};
+
+/* The forms of a picture. A page is light or dark as the reader's system is, unless the form says which. */
+enum {
+    SNAPJUDGE_PAGE = 0,       /* a page for a browser */
+    SNAPJUDGE_SVG = 1,        /* SVG alone, which is light */
+    SNAPJUDGE_LINES = 2,      /* characters */
+    SNAPJUDGE_LIGHT_PAGE = 3, /* a page with dark ink on a light ground */
+    SNAPJUDGE_DARK_PAGE = 4,  /* a page with light ink on a dark ground */
+    SNAPJUDGE_DARK_SVG = 5    /* SVG alone, with light ink on a dark ground */
 };
 
 /* Judges the text_length bytes at text. If the answer is from 0 to 3, the report is at the front of the room bytes at
@@ -63,9 +72,9 @@ uint32_t snapjudge_check_limit(const uint8_t *text, size_t text_length, uint32_t
 /* Each of the next five answers as snapjudge_check_limit does, and writes what a command of the program writes in place of the
  * report. The status is the same too. */
 
-/* `snapjudge explain`, or `snapjudge explain --draw` if drawn is 1: why the history is not atomic, an order if it is, or why the
- * text is not a history. The answer is SNAPJUDGE_NO_OPTION if drawn is neither 0 nor 1. */
-uint32_t snapjudge_explain(const uint8_t *text, size_t text_length, uint32_t events, uint32_t drawn, uint8_t *out, size_t room, size_t *length);
+/* `snapjudge explain`: why the history is not atomic, an order if it is, or why the text is not a history. The form adds `--draw` and
+ * `--all`: 0 for neither, 1 for `--draw`, 2 for `--all`, 3 for both. The answer is SNAPJUDGE_NO_OPTION if form is more than 3. */
+uint32_t snapjudge_explain(const uint8_t *text, size_t text_length, uint32_t events, uint32_t form, uint8_t *out, size_t room, size_t *length);
 
 /* `snapjudge check --format json` of a file with this name: an object on a line. In the name U+FFFD stands for what is not UTF-8. */
 uint32_t snapjudge_json(const uint8_t *text, size_t text_length, uint32_t events, const uint8_t *name, size_t name_length, uint8_t *out,
@@ -75,8 +84,8 @@ uint32_t snapjudge_json(const uint8_t *text, size_t text_length, uint32_t events
  * SNAPJUDGE_NO_OPTION if drawn is neither 0 nor 1. */
 uint32_t snapjudge_shrink(const uint8_t *text, size_t text_length, uint32_t events, uint32_t drawn, uint8_t *out, size_t room, size_t *length);
 
-/* `snapjudge draw`, `snapjudge draw --svg` or `snapjudge draw --text`, by the form. The answer is SNAPJUDGE_NO_OPTION if form is not
- * one of the forms above. */
+/* `snapjudge draw`, `snapjudge draw --svg` or `snapjudge draw --text`, by the form, or with `--light` or `--dark`. The answer is
+ * SNAPJUDGE_NO_OPTION if form is not one of the forms of a picture above. */
 uint32_t snapjudge_draw(const uint8_t *text, size_t text_length, uint32_t events, uint32_t form, uint8_t *out, size_t room, size_t *length);
 
 /* `snapjudge stats`, or `snapjudge stats --format json` where object is 1: what the history has shown. It judges nothing, so the answer is
@@ -139,8 +148,8 @@ static inline uint32_t snapjudge_check_new(const char *text, size_t text_length,
     return snapjudge_ask_new(&asked, text, text_length, report, report_length);
 }
 
-static inline uint32_t snapjudge_explain_new(const char *text, size_t text_length, uint32_t events, uint32_t drawn, char **out, size_t *length) {
-    const struct snapjudge_question asked = {SNAPJUDGE_EXPLAIN, events, drawn, ""};
+static inline uint32_t snapjudge_explain_new(const char *text, size_t text_length, uint32_t events, uint32_t form, char **out, size_t *length) {
+    const struct snapjudge_question asked = {SNAPJUDGE_EXPLAIN, events, form, ""};
     return snapjudge_ask_new(&asked, text, text_length, out, length);
 }
 

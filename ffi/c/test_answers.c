@@ -72,11 +72,20 @@ static int is_refused(struct snapjudge_question asked, const struct example *e, 
            is_untouched(bytes, bytes + sizeof bytes);
 }
 
+/* The greatest option of a command. */
+static uint32_t most_of(enum snapjudge_command command) {
+    switch (command) {
+    case SNAPJUDGE_EXPLAIN: return SNAPJUDGE_WHOLE | SNAPJUDGE_DRAWN;
+    case SNAPJUDGE_DRAW: return SNAPJUDGE_DARK_SVG;
+    default: return 1;
+    }
+}
+
 static int is_right(const struct example *e, int q) {
     struct snapjudge_question asked = ASKED[q];
     const size_t needed = e->wanted_length[q] - 1;
     const int has_option = asked.command != SNAPJUDGE_CHECK && asked.command != SNAPJUDGE_JSON;
-    const uint32_t most = asked.command == SNAPJUDGE_DRAW ? SNAPJUDGE_LINES : 1;
+    const uint32_t most = most_of(asked.command);
     asked.name = e->name;
     return is_answered(&asked, e, q) && fits(&asked, e, q, needed + 64) && fits(&asked, e, q, needed) && fits(&asked, e, q, needed - 1) &&
            fits(&asked, e, q, 0) && is_refused(asked, e, 0, asked.option, SNAPJUDGE_NO_LIMIT) &&

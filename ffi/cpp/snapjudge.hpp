@@ -21,7 +21,15 @@ namespace snapjudge {
 
 enum class Status { atomic = SNAPJUDGE_ATOMIC, regular = SNAPJUDGE_REGULAR, irregular = SNAPJUDGE_IRREGULAR, refused = SNAPJUDGE_REFUSED };
 
-enum class Form { page = SNAPJUDGE_PAGE, svg = SNAPJUDGE_SVG, lines = SNAPJUDGE_LINES };
+/// A page is light or dark as the reader's system is, unless the form says which.
+enum class Form {
+    page = SNAPJUDGE_PAGE,
+    svg = SNAPJUDGE_SVG,
+    lines = SNAPJUDGE_LINES,
+    light_page = SNAPJUDGE_LIGHT_PAGE,
+    dark_page = SNAPJUDGE_DARK_PAGE,
+    dark_svg = SNAPJUDGE_DARK_SVG
+};
 
 /// There is no such limit of events: it is not 1 to 1,048,576.
 struct NoLimit : std::out_of_range {
@@ -359,6 +367,12 @@ inline Answer explain(std::string_view text, bool drawn = false, std::uint32_t e
     return detail::ask(text, {SNAPJUDGE_EXPLAIN, events, drawn, ""});
 }
 
+/// What `snapjudge explain --all` writes, or `snapjudge explain --all --draw`: all entries of the views of a fault are listed.
+inline Answer explain_all(std::string_view text, bool drawn = false, std::uint32_t events = SNAPJUDGE_EVENTS) {
+    const std::uint32_t form = drawn ? SNAPJUDGE_WHOLE | SNAPJUDGE_DRAWN : SNAPJUDGE_WHOLE;
+    return detail::ask(text, {SNAPJUDGE_EXPLAIN, events, form, ""});
+}
+
 /// What `snapjudge check --format json` writes of a file with this name.
 inline Answer json(std::string_view text, const std::string &name = "-", std::uint32_t events = SNAPJUDGE_EVENTS) {
     return detail::ask(text, {SNAPJUDGE_JSON, events, 0, name.c_str()});
@@ -369,7 +383,7 @@ inline Answer shrink(std::string_view text, bool drawn = false, std::uint32_t ev
     return detail::ask(text, {SNAPJUDGE_SHRINK, events, drawn, ""});
 }
 
-/// What `snapjudge draw` writes, `snapjudge draw --svg` or `snapjudge draw --text`.
+/// What `snapjudge draw` writes, `snapjudge draw --svg` or `snapjudge draw --text`, or with `--light` or `--dark`.
 inline Answer draw(std::string_view text, Form form = Form::page, std::uint32_t events = SNAPJUDGE_EVENTS) {
     return detail::ask(text, {SNAPJUDGE_DRAW, events, static_cast<std::uint32_t>(form), ""});
 }

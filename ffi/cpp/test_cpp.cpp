@@ -106,11 +106,31 @@ void try_stats() {
     expect(snapjudge::stats({}).refusal.has_value(), "no counts of no text");
 }
 
+// A view with more entries than an explanation lists by itself, of which one belongs to the fault.
+void try_large_view() {
+    std::string rows, shown;
+    for (int component = 0; component < 20; ++component) {
+        const std::string entry = std::to_string(component) + ":1:7";
+        rows += "begin," + std::to_string(component) + ",update," + entry + "\nend," + std::to_string(component) + ",update,\n";
+        shown += (component == 0 ? "" : " ") + (component == 3 ? "3:1:8" : entry);
+    }
+    const auto text = history(rows + "begin,20,view,\nend,20,view," + shown + "\n");
+    const auto has = [](const snapjudge::Answer &all, std::string_view part) { return all.text.find(part) != std::string::npos; };
+    const auto few = snapjudge::explain(text), all = snapjudge::explain_all(text);
+    expect(has(few, " more entries\n") && !has(few, shown), "the entries of the fault");
+    expect(!has(all, " more entries\n") && has(all, "view " + shown + "\n") && all.status == few.status, "all entries");
+    expect(has(snapjudge::explain_all(text, true), all.text), "all entries, and a picture below");
+}
+
 void try_texts() {
     const auto text = history("begin,0,update,0:1:7\nend,0,update,\n");
     const auto ends = [](const std::string &all, std::string_view end) { return all.size() > end.size() && all.substr(all.size() - end.size()) == end; };
     expect(ends(snapjudge::draw(text).text, "</html>\n"), "a page");
     expect(ends(snapjudge::draw(text, snapjudge::Form::svg).text, "</svg>\n"), "a picture");
+    expect(ends(snapjudge::draw(text, snapjudge::Form::light_page).text, "</html>\n"), "a light page");
+    expect(ends(snapjudge::draw(text, snapjudge::Form::dark_page).text, "</html>\n"), "a dark page");
+    expect(ends(snapjudge::draw(text, snapjudge::Form::dark_svg).text, "</svg>\n"), "a dark picture");
+    expect(snapjudge::draw(text, snapjudge::Form::svg).text != snapjudge::draw(text, snapjudge::Form::dark_svg).text, "colours of a dark picture");
     expect(snapjudge::draw(text, snapjudge::Form::lines).text.find('<') == std::string::npos, "a picture in characters");
     expect(snapjudge::explain(text).text.rfind("atomic: ", 0) == 0, "an explanation");
     expect(snapjudge::json(text, "run.csv").text.rfind("{\"name\":\"run.csv\",\"status\":0,", 0) == 0, "an object with a name");
@@ -125,6 +145,7 @@ int main() {
     try_write();
     try_refused();
     try_stats();
+    try_large_view();
     try_texts();
     std::cout << failures << " failures\n";
     return failures != 0;

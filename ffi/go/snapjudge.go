@@ -138,6 +138,16 @@ func ExplainDrawn[T Text](text T, chosen ...Option) (Answer, error) {
 	return ask(question{command: explain, option: 1}, []byte(text), eventsOf(chosen))
 }
 
+// ExplainAll gives what `snapjudge explain --all` writes: the sentences of Explain, with all entries of the views of a fault.
+func ExplainAll[T Text](text T, chosen ...Option) (Answer, error) {
+	return ask(question{command: explain, option: 2}, []byte(text), eventsOf(chosen))
+}
+
+// ExplainAllDrawn gives what `snapjudge explain --all --draw` writes: the sentences of ExplainAll, and below them a picture in characters.
+func ExplainAllDrawn[T Text](text T, chosen ...Option) (Answer, error) {
+	return ask(question{command: explain, option: 3}, []byte(text), eventsOf(chosen))
+}
+
 // JSON gives what `snapjudge check --format json` writes of a file with this name: an object on a line.
 func JSON[T Text](text T, name string, chosen ...Option) (Answer, error) {
 	return ask(question{command: object, name: []byte(name)}, []byte(text), eventsOf(chosen))

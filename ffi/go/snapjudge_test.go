@@ -104,8 +104,37 @@ func TestACallerChoosesTheLimit(t *testing.T) {
 		_, err = snapjudge.Check(view, snapjudge.Events(events))
 		expect(t, err, &snapjudge.LimitError{Events: events})
 	}
-	_, err = snapjudge.Draw(view, snapjudge.Lines+1)
+	_, err = snapjudge.Draw(view, snapjudge.DarkSVG+1)
 	expect(t, err, snapjudge.ErrOption)
+}
+
+func TestAllEntriesOfALargeViewAreToldIfTheyAreAskedFor(t *testing.T) {
+	rows, shown := "", []string{}
+	for component := 0; component < 20; component++ {
+		rows += fmt.Sprintf("begin,%d,update,%d:1:7\nend,%d,update,\n", component, component, component)
+		shown = append(shown, fmt.Sprintf("%d:1:7", component))
+	}
+	// the one entry that belongs to the fault
+	shown[3] = "3:1:8"
+	entries := strings.Join(shown, " ")
+	text := header + rows + "begin,20,view,\nend,20,view," + entries + "\n"
+	few, _ := snapjudge.Explain(text)
+	all, _ := snapjudge.ExplainAll(text)
+	expect(t, strings.Contains(few.Text, " more entries\n") && !strings.Contains(few.Text, entries), true)
+	expect(t, !strings.Contains(all.Text, " more entries\n") && strings.Contains(all.Text, "view "+entries+"\n"), true)
+	expect(t, all.Status, few.Status)
+	drawn, _ := snapjudge.ExplainAllDrawn(text)
+	expect(t, strings.HasPrefix(drawn.Text, all.Text), true)
+}
+
+func TestColoursAreChosenByTheForm(t *testing.T) {
+	for form, end := range map[snapjudge.Form]string{snapjudge.LightPage: "</html>\n", snapjudge.DarkPage: "</html>\n", snapjudge.DarkSVG: "</svg>\n"} {
+		picture, err := snapjudge.Draw(inversion, form)
+		expect(t, err, nil)
+		expect(t, strings.HasSuffix(picture.Text, end), true)
+	}
+	dark, _ := snapjudge.Draw(inversion, snapjudge.DarkSVG)
+	expect(t, strings.Contains(dark.Text, "snapjudge-dark") && !strings.Contains(dark.Text, "snapjudge-light"), true)
 }
 
 func TestEightGoroutinesGetTheReportOfEachExample(t *testing.T) {

@@ -23,13 +23,16 @@ func (s Status) String() string {
 	return [...]string{"atomic", "regular", "irregular", "refused"}[s]
 }
 
-// Form is a form of a picture.
+// Form is a form of a picture. The numbers are those of the library.
 type Form uint32
 
 const (
-	Page  Form = iota // a page for a browser
-	SVG               // SVG alone
-	Lines             // characters
+	Page      Form = iota // a page for a browser, light or dark as the reader's system is
+	SVG                   // SVG alone, with dark ink on a light ground
+	Lines                 // characters
+	LightPage             // a page with dark ink on a light ground
+	DarkPage              // a page with light ink on a dark ground
+	DarkSVG               // SVG alone, with light ink on a dark ground
 )
 
 // Op is what a call does.

@@ -170,6 +170,33 @@ class Judge(unittest.TestCase):
         with self.assertRaises(ValueError):
             snapjudge.draw(judged.text, "png")
 
+    def test_a_picture_has_the_colours_that_are_asked_for(self):
+        text = HEADER + "begin,0,update,0:1:7\nend,0,update,\n"
+        self.assertEqual(snapjudge.draw(text, "svg", scheme="light"), snapjudge.draw(text, "svg"))
+        for form, scheme in (("page", "light"), ("page", "dark"), ("svg", "dark")):
+            self.assertNotEqual(snapjudge.draw(text, form, scheme=scheme), snapjudge.draw(text, form))
+        self.assertIn("snapjudge-dark", snapjudge.draw(text, "svg", scheme="dark"))
+        for form, scheme in (("text", "light"), ("text", "dark"), ("svg", "blue"), ("page", "")):
+            with self.assertRaises(ValueError):
+                snapjudge.draw(text, form, scheme=scheme)
+
+    def test_all_entries_of_a_large_view_are_told_if_they_are_asked_for(self):
+        rows = "".join(f"begin,{k},update,{k}:1:7\nend,{k},update,\n" for k in range(20))
+        # one entry belongs to the fault
+        shown = " ".join(f"{k}:1:{8 if k == 3 else 7}" for k in range(20))
+        text = f"{HEADER}{rows}begin,20,view,\nend,20,view,{shown}\n"
+        few, every = snapjudge.explain(text), snapjudge.explain(text, whole=True)
+        self.assertIn(": view 3:1:8 and 19 more entries\n", few)
+        self.assertEqual(every, few.replace("view 3:1:8 and 19 more entries\n", f"view {shown}\n"))
+        self.assertTrue(snapjudge.explain(text, drawn=True, whole=True).startswith(every))
+
+    def test_an_option_that_there_is_not_is_told_and_the_room_stays_as_it_was(self):
+        for call, option in (("explain", 4), ("shrink", 2), ("draw", 6), ("stats", 2), ("draw", (1 << 32) - 1)):
+            room = bytearray(b"\xee" * 100)
+            with self.assertRaises(ValueError) as told:
+                snapjudge.answer_into(call, HEADER.encode(), (option,), room)
+            self.assertEqual((str(told.exception), room), (f"snapjudge_{call} takes no such option as {(option,)}", b"\xee" * 100))
+
     def test_what_a_run_has_shown(self):
         counts = snapjudge.stats(HEADER + "begin,0,update,0:1:7\nbegin,1,view,\nend,1,view,0:1:7\nbegin,2,view,\nend,2,view,\nend,0,update,\n")
         self.assertEqual((counts.calls, counts.views, counts.overlap_update, counts.overlap_view, counts.most_open, counts.longest), (3, 2, 2, 0, 2, 6))
@@ -187,9 +214,15 @@ class Judge(unittest.TestCase):
         if not program:
             self.skipTest("SNAPJUDGE_PROGRAM names no program")
         asked = {("explain",): snapjudge.explain, ("explain", "--draw"): lambda text: snapjudge.explain(text, drawn=True),
+                 ("explain", "--all"): lambda text: snapjudge.explain(text, whole=True),
+                 ("explain", "--all", "--draw"): lambda text: snapjudge.explain(text, drawn=True, whole=True),
                  ("shrink",): snapjudge.shrink, ("shrink", "--draw"): lambda text: snapjudge.shrink(text, drawn=True),
                  ("draw",): snapjudge.draw, ("draw", "--svg"): lambda text: snapjudge.draw(text, "svg"),
                  ("draw", "--text"): lambda text: snapjudge.draw(text, "text"),
+                 ("draw", "--light"): lambda text: snapjudge.draw(text, scheme="light"),
+                 ("draw", "--dark"): lambda text: snapjudge.draw(text, scheme="dark"),
+                 ("draw", "--svg", "--light"): lambda text: snapjudge.draw(text, "svg", scheme="light"),
+                 ("draw", "--svg", "--dark"): lambda text: snapjudge.draw(text, "svg", scheme="dark"),
                  ("stats",): lambda text: snapjudge.answer("stats", text, 0)[1],
                  ("stats", "--format", "json"): lambda text: snapjudge.answer("stats", text, 1)[1]}
         for name, text, _ in examples():

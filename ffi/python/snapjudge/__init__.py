@@ -24,8 +24,9 @@ __version__ = "1.0.0"
 __all__ = ["Refused", "TooLittleRoom", "NoLimit", "Judged", "Counts", "Entry", "Call", "Step", "Fault", "Difference", "Stats",
            "ComponentStats", "check", "explain", "shrink", "draw", "stats", "report", "report_into", "EVENTS", "MOST_EVENTS", "STATUSES"]
 
-# The forms of a picture, by the numbers that the library has for them.
+# The forms of a picture, and its colours, by the numbers that the library has for them.
 FORMS = {"page": 0, "svg": 1, "text": 2}
+SCHEMES = {("page", "light"): 3, ("page", "dark"): 4, ("svg", "light"): 1, ("svg", "dark"): 5}
 
 
 def _object(text: bytes, events: int | None, call: str, *words) -> tuple[str, dict]:
@@ -45,10 +46,10 @@ def check(history, events: int | None = None) -> Judged:
     return judged_of(status, found, text, events)
 
 
-def explain(history, events: int | None = None, drawn: bool = False) -> str:
+def explain(history, events: int | None = None, drawn: bool = False, whole: bool = False) -> str:
     """What is wrong with a history, in sentences, with each call that a first fault concerns; of an atomic history an order of its
-    calls. With `drawn` a picture in characters is below."""
-    return answer("explain", bytes_of(history), int(drawn), events=events)[1]
+    calls. With `drawn` a picture in characters is below. With `whole` all entries of the views of a fault are listed."""
+    return answer("explain", bytes_of(history), bool(drawn) + 2 * bool(whole), events=events)[1]
 
 
 def shrink(history, events: int | None = None, drawn: bool = False) -> str:
@@ -57,11 +58,14 @@ def shrink(history, events: int | None = None, drawn: bool = False) -> str:
     return answer("shrink", bytes_of(history), int(drawn), events=events)[1]
 
 
-def draw(history, form: str = "page", events: int | None = None) -> str:
-    """A picture of a history: as a `page` for a browser, as `svg`, or in characters as `text`."""
+def draw(history, form: str = "page", events: int | None = None, scheme: str | None = None) -> str:
+    """A picture of a history: as a `page` for a browser, as `svg`, or in characters as `text`. Without a scheme a page is light or dark
+    as the reader's system is, and `svg` is light. The scheme is `light` or `dark`; `text` takes none."""
     if form not in FORMS:
         raise ValueError(f"a picture is {', '.join(FORMS)}, and not {form}")
-    return answer("draw", bytes_of(history), FORMS[form], events=events)[1]
+    if scheme is not None and (form, scheme) not in SCHEMES:
+        raise ValueError("a text has no colours" if form == "text" else f"the colours of a picture are light or dark, and not {scheme}")
+    return answer("draw", bytes_of(history), FORMS[form] if scheme is None else SCHEMES[form, scheme], events=events)[1]
 
 
 def stats(history, events: int | None = None) -> Stats:

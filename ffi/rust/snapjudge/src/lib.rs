@@ -41,15 +41,21 @@ pub enum Status {
     Refused,
 }
 
-/// A form of a picture.
+/// A form of a picture. The numbers are those of the library.
 #[derive(Clone, Copy, Debug, PartialEq, Eq)]
 pub enum Form {
-    /// A page for a browser.
+    /// A page for a browser, light or dark as the reader's system is.
     Page,
-    /// SVG alone.
+    /// SVG alone, with dark ink on a light ground.
     Svg,
     /// Characters.
     Lines,
+    /// A page with dark ink on a light ground.
+    LightPage,
+    /// A page with light ink on a dark ground.
+    DarkPage,
+    /// SVG alone, with light ink on a dark ground.
+    DarkSvg,
 }
 
 /// What a command of the program ends with, and what it writes.
@@ -208,12 +214,22 @@ impl Judge {
 
     /// As [`explain()`].
     pub fn explain(self, text: impl AsRef<[u8]>) -> Result<Answer, Error> {
-        self.ask(Question::Explanation { drawn: false }, text.as_ref())
+        self.ask(Question::Explanation { drawn: false, whole: false }, text.as_ref())
     }
 
     /// As [`explain_drawn()`].
     pub fn explain_drawn(self, text: impl AsRef<[u8]>) -> Result<Answer, Error> {
-        self.ask(Question::Explanation { drawn: true }, text.as_ref())
+        self.ask(Question::Explanation { drawn: true, whole: false }, text.as_ref())
+    }
+
+    /// As [`explain_all()`].
+    pub fn explain_all(self, text: impl AsRef<[u8]>) -> Result<Answer, Error> {
+        self.ask(Question::Explanation { drawn: false, whole: true }, text.as_ref())
+    }
+
+    /// As [`explain_all_drawn()`].
+    pub fn explain_all_drawn(self, text: impl AsRef<[u8]>) -> Result<Answer, Error> {
+        self.ask(Question::Explanation { drawn: true, whole: true }, text.as_ref())
     }
 
     /// As [`json()`].
@@ -317,6 +333,28 @@ pub fn explain_drawn(text: impl AsRef<[u8]>) -> Result<Answer, Error> {
     Judge::default().explain_drawn(text)
 }
 
+/// What `snapjudge explain --all` writes: the sentences of [`explain`], with all entries of the views of a fault.
+///
+/// ```
+/// let text = "event,process,op,data\nbegin,0,view,\nend,0,view,0:1:7\n";
+/// assert_eq!(snapjudge::explain_all(text)?, snapjudge::explain(text)?);
+/// # Ok::<(), snapjudge::Error>(())
+/// ```
+pub fn explain_all(text: impl AsRef<[u8]>) -> Result<Answer, Error> {
+    Judge::default().explain_all(text)
+}
+
+/// What `snapjudge explain --all --draw` writes: the sentences of [`explain_all`], and below them a picture in characters.
+///
+/// ```
+/// let text = "event,process,op,data\nbegin,0,view,\nend,0,view,0:1:7\n";
+/// assert!(snapjudge::explain_all_drawn(text)?.text.starts_with(&snapjudge::explain_all(text)?.text));
+/// # Ok::<(), snapjudge::Error>(())
+/// ```
+pub fn explain_all_drawn(text: impl AsRef<[u8]>) -> Result<Answer, Error> {
+    Judge::default().explain_all_drawn(text)
+}
+
 /// What `snapjudge check --format json` writes of a file with this name: an object on a line.
 ///
 /// ```
@@ -351,11 +389,13 @@ pub fn shrink_drawn(text: impl AsRef<[u8]>) -> Result<Answer, Error> {
     Judge::default().shrink_drawn(text)
 }
 
-/// What `snapjudge draw` writes, or with a form `snapjudge draw --svg` or `snapjudge draw --text`.
+/// What `snapjudge draw` writes, or with a form `snapjudge draw --svg` or `snapjudge draw --text`, or with `--light` or `--dark`.
 ///
 /// ```
-/// let picture = snapjudge::draw("event,process,op,data\nbegin,0,view,\nend,0,view,\n", snapjudge::Form::Svg)?;
-/// assert!(picture.text.ends_with("</svg>\n"));
+/// use snapjudge::{draw, Form};
+/// let text = "event,process,op,data\nbegin,0,view,\nend,0,view,\n";
+/// assert!(draw(text, Form::Svg)?.text.ends_with("</svg>\n"));
+/// assert_ne!(draw(text, Form::DarkSvg)?, draw(text, Form::Svg)?);
 /// # Ok::<(), snapjudge::Error>(())
 /// ```
 pub fn draw(text: impl AsRef<[u8]>, form: Form) -> Result<Answer, Error> {

@@ -21,7 +21,7 @@ extern "C" {
         text: *const u8,
         text_length: usize,
         events: u32,
-        drawn: u32,
+        form: u32,
         out: *mut u8,
         room: usize,
         length: *mut usize,
@@ -75,7 +75,7 @@ extern "C" {
 #[derive(Clone, Copy)]
 pub(crate) enum Question<'a> {
     Report,
-    Explanation { drawn: bool },
+    Explanation { drawn: bool, whole: bool },
     Object { name: &'a str },
     Witness { drawn: bool },
     Picture(Form),
@@ -92,7 +92,9 @@ fn call(question: Question<'_>, text: &[u8], events: u32, room: &mut [u8]) -> (u
         assert_eq!(snapjudge_version(), VERSION, "libsnapjudge.a is of another version");
         match question {
             Question::Report => snapjudge_check_limit(from, bytes, events, to, most, end),
-            Question::Explanation { drawn } => snapjudge_explain(from, bytes, events, drawn.into(), to, most, end),
+            Question::Explanation { drawn, whole } => {
+                snapjudge_explain(from, bytes, events, u32::from(drawn) + 2 * u32::from(whole), to, most, end)
+            }
             Question::Object { name } => snapjudge_json(from, bytes, events, name.as_ptr(), name.len(), to, most, end),
             Question::Witness { drawn } => snapjudge_shrink(from, bytes, events, drawn.into(), to, most, end),
             Question::Picture(form) => snapjudge_draw(from, bytes, events, form as u32, to, most, end),

@@ -135,6 +135,35 @@ fn a_text_that_is_not_a_history_is_an_error_with_the_sentences() {
     assert!(boxed.source().is_none());
 }
 
+// A view with more entries than an explanation lists by itself, of which one belongs to the fault.
+#[test]
+fn all_entries_of_a_large_view_are_told_if_they_are_asked_for() {
+    let (mut rows, mut shown) = (String::new(), Vec::new());
+    for component in 0..20 {
+        rows += &format!("begin,{component},update,{component}:1:7\nend,{component},update,\n");
+        shown.push(format!("{component}:1:{}", if component == 3 { 8 } else { 7 }));
+    }
+    let shown = shown.join(" ");
+    let text = format!("event,process,op,data\n{rows}begin,20,view,\nend,20,view,{shown}\n");
+    let (few, all) = (snapjudge::explain(&text).unwrap(), snapjudge::explain_all(&text).unwrap());
+    assert!(few.text.contains(" more entries\n") && !few.text.contains(&shown));
+    assert!(!all.text.contains(" more entries\n") && all.text.contains(&format!("view {shown}\n")));
+    assert_eq!((few.status, all.status), (Status::Irregular, Status::Irregular));
+    assert!(snapjudge::explain_all_drawn(&text).unwrap().text.starts_with(&all.text));
+}
+
+#[test]
+fn each_form_of_a_picture_has_its_colours() {
+    use snapjudge::{draw, Form};
+    for example in examples().iter().filter(|it| status_of(&it.report) != Status::Refused) {
+        let forms = [Form::Page, Form::LightPage, Form::DarkPage].map(|form| draw(&example.text, form).unwrap());
+        assert!(forms.iter().all(|it| it.status == forms[0].status && it.text.ends_with("</html>\n")));
+        let (light, dark) = (draw(&example.text, Form::Svg).unwrap(), draw(&example.text, Form::DarkSvg).unwrap());
+        assert!(light.text.contains("snapjudge-light") && !light.text.contains("snapjudge-dark"));
+        assert!(dark.text.contains("snapjudge-dark") && !dark.text.contains("snapjudge-light"));
+    }
+}
+
 // A call that has ended.
 fn call(call: u32, process: u16, records: (u32, u32), op: Op) -> Call {
     Call { call, process, op, begin: records.0, end: Some(records.1) }
