@@ -204,6 +204,22 @@ fn a_number_beyond_the_limit_of_events_is_refused_as_the_parser_does(
 // Lines with options that do not go together, or with one that needs another, and what is said about them.
 const TOGETHER: &[(&str, &str)] = &[
     (
+        "snapjudge draw --text --svg",
+        "error: the argument '--svg' cannot be used with '--text'\n",
+    ),
+    (
+        "snapjudge draw --svg --dark --light",
+        "error: the argument '--light' cannot be used with '--dark'\n",
+    ),
+    (
+        "snapjudge draw --text --light",
+        "error: the argument '--light' cannot be used with '--text'\n",
+    ),
+    (
+        "snapjudge draw --dark --text",
+        "error: the argument '--dark' cannot be used with '--text'\n",
+    ),
+    (
         "snapjudge check --quiet --format json",
         "error: the argument '--quiet' cannot be used with '--format json'\n",
     ),

@@ -119,11 +119,24 @@ fn stats_refusal(matches: &ArgMatches<'_>) -> &'static str {
     }
 }
 
+// Why a picture is not asked for.
+fn draw_refusal(matches: &ArgMatches<'_>) -> &'static str {
+    if flag_in(matches, "light") && flag_in(matches, "dark") {
+        "error: the argument '--light' cannot be used with '--dark'\n"
+    } else if flag_in(matches, "svg") {
+        "error: the argument '--svg' cannot be used with '--text'\n"
+    } else if flag_in(matches, "light") {
+        "error: the argument '--light' cannot be used with '--text'\n"
+    } else {
+        "error: the argument '--dark' cannot be used with '--text'\n"
+    }
+}
+
 // Why words that the parser takes ask for no job. The parser tests each number by itself. It does not test the word of a format or
 // of colours, nor whether two options go together.
 fn refusal_of(matches: &ArgMatches<'_>) -> &'static str {
-    if matches.subcommand_matches("draw").is_some() {
-        return "error: the argument '--svg' cannot be used with '--text'\n";
+    if let Some(inner) = matches.subcommand_matches("draw") {
+        return draw_refusal(inner);
     }
     if let Some(inner) = matches.subcommand_matches("stats") {
         return stats_refusal(inner);

@@ -28,10 +28,12 @@ const VALUES: &[(&[u8], &[u8])] = &[
 
 // What a dark picture has in the place of a value.
 fn dark_of<'a>(value: &'a [u8]) -> &'a [u8] {
-    match VALUES.iter().find(|pair| pair.0 == value) {
-        Some(pair) => pair.1,
-        None => value,
+    for (light, dark) in VALUES {
+        if *light == value {
+            return dark;
+        }
     }
+    value
 }
 
 // Adds a light picture as a dark one. Quotes stand round the values of attributes only.
