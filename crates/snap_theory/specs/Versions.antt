@@ -14,7 +14,7 @@ EndInOrder calls =
     b.ended ≡ Some place → is_before a.ended place ≡ true
 
 -- a history whose updates of a component begin and end in the order of their numbers. They may overlap, and several processes
--- may write a component (Anderson 1993). The numbers are versions, and their order is the version order of multiversion
+-- may write a component (Anderson 1994). The numbers are versions, and their order is the version order of multiversion
 -- concurrency control (Bernstein and Goodman 1983)
 pub record IsOrdered (es : List Event) : Type 0 where
   pub well_formed : IsWellFormed es
