@@ -1,4 +1,4 @@
-use Rattle.std.proofs.Common.{◌≡◌, ◌∙◌, List, Option, Some, None, ap, codes, subst, sym, ℕ}
+use Rattle.std.proofs.Common.{◌∙◌, Some, ap, codes, subst, sym}
 use Rattle.clap.specs.Words.{found_of}
 use Rattle.clap.proofs.WalkLemmas.{first_value-rows}
 use Rattle.snap_words.specs.Jobs.{SaysColor}
