@@ -8,14 +8,17 @@ use crate::sweep::rises;
 use snap_masks::{Bounds, Column, ROW_LIMIT, TABLE_LIMIT};
 use std::alloc::{AllocError, Global};
 
-// The number of rows that are compared before all are.
-const SAMPLES: usize = 512;
+// About how many rows are compared before all are.
+const SAMPLES: usize = 128;
 
 // The number of columns to which a column may be added.
 const TRIED: usize = 4;
 
-// How many more pairs of columns may be compared in all rows for nothing than are added up.
-const MISSES: u32 = 4;
+// What comparisons that show nothing may take in all: one for a few rows, and `ALL_ROWS` for all of them. Two columns that are
+// added up give as much back.
+const CREDIT: u32 = 16;
+
+const ALL_ROWS: u32 = 4;
 
 // Whether a few rows show that two columns do not rise together.
 fn cross_in_samples(ours: &[u32], theirs: &[u32]) -> bool {
@@ -106,12 +109,12 @@ struct Partner {
     sums: Vec<u32>,
 }
 
-// The first of a few columns that rises together with a column. `misses` says how many more may be compared in all rows for nothing.
+// The first of a few columns that rises together with a column. No more are compared once `credit` is used up.
 fn partner_of(
     alloc: Global,
     column: &Column,
     columns: &[Column],
-    misses: &mut u32,
+    credit: &mut u32,
 ) -> Result<Option<Partner>, AllocError>
     ensures { IfOk result (λ found. IfSome found (IsPartner column.now columns.now)) }
 {
@@ -121,17 +124,16 @@ fn partner_of(
     }
     for place in 0..columns.len().min(TRIED) {
         let others = columns[place].numbers();
-        if *misses > 0
-            && !is_far(&columns[place])
-            && others.len() == numbers.len()
-            && !cross_in_samples(numbers, others)
-        {
-            if rise_together(alloc, numbers, others)?
+        if *credit > 0 && !is_far(&columns[place]) && others.len() == numbers.len() {
+            if cross_in_samples(numbers, others) {
+                *credit -= 1;
+            } else if rise_together(alloc, numbers, others)?
                 && let Some(sums) = sums_of(alloc, numbers, others)?
             {
                 return Ok(Some(Partner { place, sums }));
+            } else {
+                *credit = credit.saturating_sub(ALL_ROWS);
             }
-            *misses -= 1;
         }
     }
     Ok(None)
@@ -142,14 +144,14 @@ fn add(
     alloc: Global,
     columns: &mut Vec<Column>,
     column: Column,
-    misses: &mut u32,
+    credit: &mut u32,
 ) -> Result<(), AllocError>
     ensures { OnOk result (IsAdded column columns.old.items columns.new.items) }
 {
-    match partner_of(alloc, &column, columns, misses)? {
+    match partner_of(alloc, &column, columns, credit)? {
         Some(Partner { place, sums }) => {
             columns[place] = Column::new(alloc, sums, TABLE_LIMIT)?;
-            *misses = misses.saturating_add(1);
+            *credit = credit.saturating_add(ALL_ROWS);
             Ok(())
         }
         None => Ok(columns.push(column)?),
@@ -162,9 +164,9 @@ pub fn joined(alloc: Global, mut columns: Vec<Column>) -> Result<Vec<Column>, Al
     ensures { IfOk result (λ keys. TellAlike columns.items keys.items) }
 {
     let mut keys: Vec<Column> = Vec::with_capacity(alloc, columns.len())?;
-    let mut misses = MISSES;
+    let mut credit = CREDIT;
     while let Some(column) = columns.pop() {
-        add(alloc, &mut keys, column, &mut misses)?;
+        add(alloc, &mut keys, column, &mut credit)?;
     }
     Ok(keys)
 }
