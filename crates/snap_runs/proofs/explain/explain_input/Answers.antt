@@ -14,5 +14,8 @@ returns-in-Ok-clause-answer g c =
 pub returns-in-Err-Text-clause-answer : goal.returns-in-Err-Text-clause-answer
 returns-in-Err-Text-clause-answer g c =
     let read = c.in-Err-Text in
-    explained_refusal c.args.limit.events c.args.listed (g.R.Read.remaining (inner_of c.args.reader.now)) c.read_records.new.room.items c.deref-in-Err-Text.result.now read.field-0 read.place read.fault _
-    read.ensures.text read.ensures.room read.field-0-is c.deref-in-Err-Text.ensures.value c.in_ok-text-in-Err-Text.ensures
+    let known = g.R.Read.remaining (inner_of c.args.reader.now) in
+    with_text _ _ known
+    (explained_refusal c.args.limit.events c.args.listed known c.read_records.new.room.items c.deref-in-Err-Text.result.now read.field-0 read.place read.fault _
+    read.ensures.text read.ensures.room read.field-0-is c.deref-in-Err-Text.ensures.value (rw (← read.place-is, ← read.fault-is) c.in_ok-text-in-Err-Text.ensures))
+    (λ text explained. explained)
