@@ -52,7 +52,7 @@ expect "a folder in its place" 1 "" "$top/install" "pre fix"
 expect_said "the reason" "snapjudge: $room/pre fix/bin/snapjudge is a directory; nothing is installed"
 expect "what is there of it" 0 "" find "pre fix" -type f
 expect "a removal of a folder in its place" 1 "" "$top/install" --remove "pre fix"
-expect "a full disk, and nothing there" 1 "" sh -c 'ulimit -f 1000; "$1" new 2>/dev/null' sh "$top/install"
+expect "a full disk, and nothing there" 1 "" sh -c 'ulimit -f 1500; "$1" new 2>/dev/null' sh "$top/install"
 expect "what is there of it" 0 "" find new -type f
 library=$(cksum <"$top/ffi/build/libsnapjudge.a")
 expect "a disk too full for the library" 1 "" sh -c 'ulimit -f 8; "$1" newer 2>/dev/null' sh "$top/install"
