@@ -1,14 +1,14 @@
 #!/usr/bin/env python3
 """Generated and damaged texts through the library, and some of them through the program too: the same bytes for the same text.
 
-usage: differential.py [TEXTS [OF_THEM_BY_THE_PROGRAM [SEED [DRIVER ..]]]]        (1000000, 10000 and 1, if they are not given)
+usage: differential.py [TEXTS [OF_THEM_BY_THE_PROGRAM [SEED [DRIVER ..]]]]        (1000000, 1000000 and 1, if they are not given)
 
 Build first: ffi/build.sh and ./snapjudge. Each text is judged twice, with ample room and with just enough; the status has to be
 the one that the report says, and the bytes the same. Each other call of the library has to answer with the same status, and the counts
-with that of a history. From time to time the program judges a text too, by the command of each call. A quarter of the texts are histories as they are generated, the others
-are damaged in one to eight places.
+with that of a history. Some texts the program answers too, each by one of its commands, which is drawn. A quarter of the texts
+are histories as they are generated, the others are damaged in one to eight places.
 
-The first texts are those of examples/, each by the program too. A driver answers each text by the wrapper of its language, as the
+The first texts are those of examples/, and the program answers them by each command. A driver answers each text by the wrapper of its language, as the
 library does. It reads the length of a text and the words of a command on a line, and then the text. It writes the status and the length
 of the answer on a line, and then the answer. The word `values` asks for the values of a text, written as its object, and below it the
 order of the report, or why it is not a history.
@@ -26,21 +26,25 @@ import snapjudge  # noqa: E402
 
 PROGRAM = os.path.join(HERE, "..", "built", "snapjudge")
 HEADER = "event,process,op,data"
-# The calls of the library beside the check, each with its option or the name of the text, and the words for the program.
+# The calls of the library beside the check, each with its option, its options or the name of the text, and the words for the program.
 CALLS = (
     ("explain", 0, ["explain"]),
     ("explain", 1, ["explain", "--draw"]),
     ("explain", 2, ["explain", "--all"]),
     ("explain", 3, ["explain", "--all", "--draw"]),
+    ("explain_faults", (0, 3), ["explain", "--faults", "3"]),
+    ("explain_faults", (1, 3), ["explain", "--all", "--faults", "3"]),
     ("json", b"-", ["check", "--format", "json"]),
     ("shrink", 0, ["shrink"]),
     ("shrink", 1, ["shrink", "--draw"]),
+    ("shrink", 2, ["shrink", "--map"]),
     ("draw", 0, ["draw"]),
     ("draw", 1, ["draw", "--svg"]),
     ("draw", 2, ["draw", "--text"]),
     ("draw", 3, ["draw", "--light"]),
     ("draw", 4, ["draw", "--dark"]),
     ("draw", 5, ["draw", "--svg", "--dark"]),
+    ("draw_calls", (1, 5, 0, 0), ["draw", "--svg", "--calls", "5"]),
     ("stats", 0, ["stats"]),
     ("stats", 1, ["stats", "--format", "json"]),
 )
@@ -164,27 +168,41 @@ def said(report):
         report.split("\n")[1].removeprefix("regular ") + report.split("\n")[3].removeprefix("atomic ")]
 
 
-def by_program(text, *words):
-    """The status and the answer of the program by a command."""
-    child = subprocess.run([PROGRAM, *(words or ["check"])], input=text, capture_output=True)
-    return snapjudge.STATUSES[child.returncode], child.stdout
+class Program:
+    """The program, with a file in memory as standard input, and another as standard output."""
+
+    def __init__(self):
+        self.given, self.answered = os.memfd_create("given"), os.memfd_create("answered")
+
+    def answer(self, text, words):
+        """The status and the answer of a command."""
+        for file in (self.given, self.answered):
+            os.ftruncate(file, 0)
+            os.lseek(file, 0, os.SEEK_SET)
+        os.pwrite(self.given, text, 0)
+        files = [(os.POSIX_SPAWN_DUP2, self.given, 0), (os.POSIX_SPAWN_DUP2, self.answered, 1),
+                 (os.POSIX_SPAWN_OPEN, 2, os.devnull, os.O_WRONLY, 0)]
+        child = os.posix_spawn(PROGRAM, [PROGRAM, *words], os.environ, file_actions=files)
+        status = os.waitstatus_to_exitcode(os.waitpid(child, 0)[1])
+        return snapjudge.STATUSES[status], os.pread(self.answered, os.fstat(self.answered).st_size, 0)
 
 
 def by_library(text, call, option):
     """The status and the answer of the library by a call."""
-    words = (option, len(option)) if isinstance(option, bytes) else (option,)
+    words = option if isinstance(option, tuple) else (option, len(option)) if isinstance(option, bytes) else option if isinstance(option, tuple) else (option,)
     status, length = snapjudge.answer_into(call, text, words, ROOM)
     return status, bytes(ROOM[:length])
 
 
-def differing(text, status, is_asked):
-    """The words of each command whose call answers with another status, or, where the program is asked, otherwise than it."""
-    for call, option, words in CALLS:
-        answer = by_library(text, call, option)
-        # a history is counted without a verdict, and the status is 0
-        wanted = "atomic" if call == "stats" and status != "refused" else status
-        if answer[0] != wanted or is_asked and answer != by_program(text, *words):
-            yield " ".join(words)
+def by_calls(text, status, report):
+    """What the library answers by each call, by the words of its command."""
+    found = {"check": (status, report.encode())}
+    return found | {" ".join(words): by_library(text, call, option) for call, option, words in CALLS}
+
+
+def is_status(words, status, of_check):
+    """Whether a command may have a status where the check has another: a history is counted without a verdict, and the status is 0."""
+    return status == ("atomic" if words.startswith("stats") and of_check != "refused" else of_check)
 
 
 def values(text, status, report):
@@ -197,38 +215,40 @@ def values(text, status, report):
     return status, by_library(text, "json", b"-")[1] + below
 
 
-def differing_drivers(text, status, report, drivers):
+def differing_drivers(text, wanted, drivers):
     """The name of each driver that answers otherwise than the library, with the words of the command."""
-    if not drivers:
-        return
-    wanted = {" ".join(words): by_library(text, call, option) for call, option, words in CALLS}
-    wanted |= {"check": (status, report.encode()), "values": values(text, status, report)}
     for driver in drivers:
         for words, answer in wanted.items():
             if driver.answer(text, words) != answer:
                 yield f"{words} of {driver.path}"
 
 
-def wrong_answers(text, is_asked, drivers):
-    """The status of a text, and the words of each command whose call is wrong."""
+def wrong_answers(text, asked, program, drivers):
+    """The status of a text, and the words of each command whose call is wrong. The program is asked by some commands."""
     status, report = snapjudge.report(text)
     room = bytearray(len(report))
     again = snapjudge.report_into(text, room)
     same = again == (status, len(report)) and room.decode("ascii") == report and said(report) == status
-    wrong = [] if same and not (is_asked and by_program(text) != (status, report.encode())) else ["check"]
-    wrong += differing_drivers(text, status, report, drivers)
-    return status, wrong + list(differing(text, status, is_asked))
+    answers = by_calls(text, status, report)
+    wrong = [] if same else ["report"]
+    wrong += [words for words, answer in answers.items() if not is_status(words, answer[0], status)]
+    wrong += [f"{words} of the program" for words in asked if program.answer(text, words.split()) != answers[words]]
+    if drivers:
+        wrong += differing_drivers(text, answers | {"values": values(text, status, report)}, drivers)
+    return status, wrong
 
 
 def main():
-    words = [int(word) for word in sys.argv[1:4]] + [1_000_000, 10_000, 1][len(sys.argv) - 1:]
+    words = [int(word) for word in sys.argv[1:4]] + [1_000_000, 1_000_000, 1][len(sys.argv) - 1:]
     texts, programs, seed = words
-    drivers, first = [Driver(path) for path in sys.argv[4:]], list(examples())
+    program, drivers, first = Program(), [Driver(path) for path in sys.argv[4:]], list(examples())
+    commands = ["check"] + [" ".join(words) for _, _, words in CALLS]
     every, asked, differences, seen = (max(1, texts // max(1, programs)) - 1) | 1, 0, 0, dict.fromkeys(snapjudge.STATUSES, 0)
+    turns = random.Random(seed)
     for i, text in zip(range(texts), itertools.chain(first, texts_of(random.Random(seed)))):
-        is_asked = asked < programs and (i < len(first) or i % every == 0)
-        asked += is_asked
-        status, wrong = wrong_answers(text, is_asked, drivers)
+        words = commands if i < len(first) else [turns.choice(commands)] if asked < programs and i % every == 0 else []
+        asked += len(words) > 0
+        status, wrong = wrong_answers(text, words, program, drivers)
         seen[status] += 1
         if wrong:
             differences += 1

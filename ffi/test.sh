@@ -30,7 +30,7 @@ compiled() {
 
 # only the calls are seen
 names() {
-  local calls="snapjudge_check snapjudge_check_limit snapjudge_draw snapjudge_explain snapjudge_json snapjudge_shrink snapjudge_stats snapjudge_version"
+  local calls="snapjudge_check snapjudge_check_limit snapjudge_draw snapjudge_draw_calls snapjudge_explain snapjudge_explain_faults snapjudge_json snapjudge_shrink snapjudge_stats snapjudge_version"
   [ "$(nm --defined-only -g --format=just-symbols "$build/libsnapjudge.a" | grep -v ':$' | sort | xargs)" = "$calls" ] &&
     [ "$(nm -D --defined-only --format=just-symbols "$build/libsnapjudge.so" | grep '^snapjudge' | sort | xargs)" = "$calls" ]
 }
@@ -41,7 +41,8 @@ by_program() {
   rm -rf "$1" && mkdir -p "$1" || return 1
   for example in ../examples/*.csv; do
     for question in "check" "explain" "explain --draw" "explain --all" "explain --all --draw" "check --format json" "shrink" "shrink --draw" \
-      "draw" "draw --svg" "draw --text" "draw --light" "draw --dark" "draw --svg --dark" "stats" "stats --format json"; do
+      "draw" "draw --svg" "draw --text" "draw --light" "draw --dark" "draw --svg --dark" "draw --svg --calls 5 --from 2" "stats" "stats --format json" \
+      "shrink --map" "explain --faults 3" "explain --all --faults 3"; do
       read -ra words <<<"$question"
       case $question in
         check*json)
@@ -76,7 +77,7 @@ damaged() {
   for driver in "$build"/driver_*; do
     [ -x "$driver" ] && drivers+=("$driver")
   done
-  SNAPJUDGE_LIBRARY=$build/libsnapjudge.so python3 -B differential.py 2000 100 1 "${drivers[@]}"
+  SNAPJUDGE_LIBRARY=$build/libsnapjudge.so python3 -B differential.py 2000 1600 1 "${drivers[@]}"
 }
 
 # the crate, its examples, and its driver

@@ -2,7 +2,7 @@
 _snapjudge() {
   local word=${COMP_WORDS[COMP_CWORD]} before=${COMP_WORDS[COMP_CWORD - 1]} words=
   case $before in
-    --pieces | --workers | --views | --events | --window | --idle | --rounds | --seed) return ;;
+    --pieces | --workers | --views | --events | --window | --idle | --late | --rounds | --seed | --calls | --from | --around | --faults) return ;;
     --color) mapfile -t COMPREPLY < <(compgen -W 'auto always never' -- "$word"); return ;;
     --files-from) mapfile -t COMPREPLY < <(compgen -f -- "$word"); return ;;
     -r | --recursive) mapfile -t COMPREPLY < <(compgen -d -- "$word"); return ;;
@@ -16,11 +16,11 @@ _snapjudge() {
   case ${COMP_WORDS[1]} in
     check | shrink | explain | draw | stats)
       words=--help
-      [[ ${COMP_WORDS[1]} != check ]] || words='--pieces --workers --files-from --null --recursive --quiet -q --views --events --format --summary --follow --window --idle --no-progress --color --help'
-      [[ ${COMP_WORDS[1]} != draw ]] || words='--svg --text --light --dark --events --help'
+      [[ ${COMP_WORDS[1]} != check ]] || words='--pieces --workers --files-from --null --recursive --quiet -q --views --events --format --summary --follow --window --idle --late --no-progress --color --help'
+      [[ ${COMP_WORDS[1]} != draw ]] || words='--svg --text --light --dark --calls --from --around --events --help'
       [[ ${COMP_WORDS[1]} != stats ]] || words='--format --events --help'
-      [[ ${COMP_WORDS[1]} != shrink ]] || words='--draw --events --help'
-      [[ ${COMP_WORDS[1]} != explain ]] || words='--draw --all --events --help'
+      [[ ${COMP_WORDS[1]} != shrink ]] || words='--draw --map --events --help'
+      [[ ${COMP_WORDS[1]} != explain ]] || words='--draw --all --faults --events --help'
       [[ $word == -* ]] || { mapfile -t COMPREPLY < <(compgen -f -- "$word"); return; }
       ;;
     record) words='--workers --rounds --events --seed --scan --judge --stamped --help' ;;

@@ -194,6 +194,17 @@ expect "a refused text, and explain --all" 3 "$refused_empty" ./second explain -
 expect "a refused text, and draw --dark" 3 "$refused_empty" ./second draw --dark
 expect "a refused text, and shrink --draw" 3 "refused record 1: header
 " ./second shrink --draw
+expect "a refused text, and shrink --map" 3 "refused record 1: header
+" ./second shrink --map
+expect "a refused text, and explain --faults" 3 "$refused_empty" ./second explain --faults 3
+expect "a witness drawn and mapped" 5 "" ./second shrink --draw --map old.csv
+expect_said "the reason" "error: the argument '--draw' cannot be used with '--map'"
+expect "a picture of several faults" 5 "" ./second explain --draw --faults 2 old.csv
+expect_said "the reason" "error: the argument '--draw' cannot be used with '--faults <N>'"
+expect "no fault" 5 "" ./second explain --faults 0 old.csv
+expect "the first fault of each kind" 0 "" sh -c './second explain old.csv >one
+./second explain --faults 1 old.csv | cmp - one'
+rm -f one
 for log in '{:type :invoke, :f :read}' '[{:type :invoke, :f :read}]'; do
   printf '%s\n' "$log" >log.edn
   expect "a log of Jepsen" 3 "refused record 1: header
@@ -210,6 +221,22 @@ for scheme in light dark; do
   expect "characters in a scheme" 5 "" ./second draw --text --$scheme old.csv
   expect_said "the reason" "error: the argument '--$scheme' cannot be used with '--text'"
 done
+expect "a picture from a call that there is not" 5 "" ./second draw --from 1000 old.csv
+expect_said "the reason" "error: invalid value '1000' for '--from <CALL>': the history has no call 1000
+
+For more information, try '--help'."
+expect "a picture around a call that there is not" 5 "" ./second draw --svg --around 1000 old.csv
+expect_said "the reason" "error: invalid value '1000' for '--around <CALL>': the history has no call 1000
+
+For more information, try '--help'."
+expect "a picture from a call and around one" 5 "" ./second draw --from 1 --around 1 old.csv
+expect_said "the reason" "error: the argument '--from <CALL>' cannot be used with '--around <CALL>'"
+expect "more calls than lines have room for" 5 "" ./second draw --text --calls 13 old.csv
+expect_said "the reason" "error: invalid value '13' for '--calls <N>': 13 is not in 1..=12
+
+For more information, try '--help'."
+expect "a refused text, and draw --from" 3 "$refused_empty" ./second draw --from 3
+expect "a picture from the second call on" 0 "" sh -c './second draw --svg --from 2 old.csv | grep -qF "data-id=\"call-2\""'
 expect "a dark picture" 0 "" sh -c './second draw --svg --dark old.csv | grep -qF "<pattern id=\"snapjudge-dark\""'
 expect "a picture is light, if nothing else is asked for" 0 "" sh -c './second draw --svg old.csv >light
 ./second draw --svg --light old.csv | cmp - light'

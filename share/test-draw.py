@@ -23,6 +23,7 @@ import xml.etree.ElementTree as tree
 
 from browser import Browser
 from drawn_lines import WRONG as WRONG_LINES, LinePicture, try_lines
+from long_pictures import try_long, try_pieces
 from pictures import SVG, WIDEST, Picture, bar_box, calls_of, faults_of, folded, number, points_of, text_box
 from rendered import try_colours
 from wrong_pictures import WRONG, WRONG_COLOURS, WRONG_FOLDED, WRONG_ORDERS, WRONG_PAGES
@@ -86,7 +87,13 @@ def draw(program, path, *words):
     return asked(program, "draw", *words, path)
 
 
-def try_calls(count, name, picture, calls, faults):
+def told_of(said, at):
+    """What an explanation says that a call does, if it has a line of it: of a wide view of a fault the entries that matter."""
+    line = next((it for it in said if it.startswith(f"  call {at} of process ")), "")
+    return line.partition(": ")[2]
+
+
+def try_calls(count, name, picture, calls, faults, said):
     """Each call has its bar, in its lane, from its begin to its end, and no other call has one."""
     count.same(picture.ids("call-"), set(map(str, calls)), f"{name}: calls")
     count.same(picture.ids("lane-"), {call.process for call in calls.values()}, f"{name}: lanes")
@@ -108,7 +115,7 @@ def try_calls(count, name, picture, calls, faults):
         count.same(inside, {call.process}, f"{where}: lanes of its bar")
         count.same(set(picture.text(f"call-{at}", "text", "tag").split()), {it[len("fault-"):] for it in marks}, f"{where}: tag")
         label = picture.text(f"call-{at}", "text", "label")
-        whole = f"{at} {call.kind} {call.data}".strip()
+        whole = f"{at} {told_of(said, at)}" if marks and told_of(said, at) else f"{at} {call.kind} {call.data}".strip()
         count.expect(label == whole or label.endswith("…") and whole.startswith(label[:-1]), f"{where}: its label is {label}")
         count.expect((picture.part(f"call-{at}", "path", "open") is not None) == (call.end is None), f"{where}: an open end")
         places[call.begin] = bar.left
@@ -336,7 +343,7 @@ def try_picture(count, name, text, history, report, said):
     try_alone(count, name, text)
     if picture:
         count.same(picture.document_ids, {"snapjudge-light"}, f"{name}: ids, which two pictures of one document would share")
-    if picture and try_calls(count, name, picture, calls, faults):
+    if picture and try_calls(count, name, picture, calls, faults, said):
         try_overlap(count, name, picture, calls)
         try_faults(count, name, picture, faults, said)
         try_order(count, name, picture, order)
@@ -409,6 +416,7 @@ def try_longest(count, program):
     if not picture:
         return
     last = (MOST_EVENTS - 4) // 2 + 2
+    try_pieces(count, "the longest history", page, calls_of(text))
     marked = {it for it in picture.ids("call-") if "fault-read" in picture.classes(f"call-{it}")}
     count.same(status, 1, "the longest history: status")
     count.same(marked, {"2", str(last)}, "the longest history: calls of the fault")
@@ -427,6 +435,7 @@ def main(words):
     PICTURES.mkdir(exist_ok=True)
     try:
         try_tests(count, program, browser)
+        try_long(count, lambda path, *words: draw(program, path, *words), browser, lambda *words: asked(program, *words))
         kept = [name for path in sorted((TOP / "examples").glob("*.csv")) for name in try_example(count, program, browser, path, is_written)]
     finally:
         if browser:

@@ -565,7 +565,7 @@ def main(folder):
     worked = [check(*each) for each in given + small] + others
     chosen = [each for each in given if each[0] in ("atomic-run", "new-old-inversion")]
     several_files = list(files_of(folder, chosen))
-    drawn = ["draw", "--text"], ["draw", "--svg", "--dark"], ["explain", "--all"], ["explain", "--draw"], ["shrink", "--draw"]
+    drawn = ["draw", "--text"], ["draw", "--svg", "--dark"], ["explain", "--all"], ["explain", "--draw"], ["shrink", "--draw"], ["shrink", "--map"], ["explain", "--faults", "3"]
     pictures = [picture(words, *each) for words in drawn for each in chosen]
     colors = [colored(*each) for each in chosen]
     in_pieces = check(*updates_alone(21000), 2)

@@ -28,7 +28,7 @@ enum {
     SNAPJUDGE_NO_MEMORY = 4, /* memory ran out: nothing was written, *length is 0 */
     SNAPJUDGE_NO_ROOM = 5,   /* the answer does not fit: nothing was written, *length is how many bytes it has */
     SNAPJUDGE_NO_LIMIT = 6,  /* no such limit of events exists: nothing was written, *length is 0 */
-    SNAPJUDGE_NO_OPTION = 7  /* an option is out of its range: nothing was written, *length is 0 */
+    SNAPJUDGE_NO_OPTION = 7  /* an option is out of its range, or names a call that the history lacks: nothing was written, *length is 0 */
 };
 
 /* How many events a history may have by default. */
@@ -38,6 +38,16 @@ enum { SNAPJUDGE_EVENTS = 65536 };
 enum {
     SNAPJUDGE_DRAWN = 1, /* a picture in characters is below */
     SNAPJUDGE_WHOLE = 2  /* all entries of the views of a fault are listed */
+};
+
+/* How many faults of a kind an explanation may have. */
+enum { SNAPJUDGE_FAULTS = 1000 };
+
+/* The forms of a witness. */
+enum {
+    SNAPJUDGE_WITNESS = 0,       /* the witness, which is a history */
+    SNAPJUDGE_WITNESS_DRAWN = 1, /* its picture in characters */
+    SNAPJUDGE_WITNESS_MAP = 2    /* a table of its calls and of those of the history that they are */
 };
 
 /* The forms of a picture. A page is light or dark as the reader's system is, unless the form says which. */
@@ -69,24 +79,36 @@ uint32_t snapjudge_check(const uint8_t *text, size_t text_length, uint8_t *repor
  * have 1,024 bytes for each of them. The answer is SNAPJUDGE_NO_LIMIT if events is not in that range. */
 uint32_t snapjudge_check_limit(const uint8_t *text, size_t text_length, uint32_t events, uint8_t *report, size_t room, size_t *report_length);
 
-/* Each of the next five answers as snapjudge_check_limit does, and writes what a command of the program writes in place of the
+/* Each of the next six answers as snapjudge_check_limit does, and writes what a command of the program writes in place of the
  * report. The status is the same too. */
 
 /* `snapjudge explain`: why the history is not atomic, an order if it is, or why the text is not a history. The form adds `--draw` and
  * `--all`: 0 for neither, 1 for `--draw`, 2 for `--all`, 3 for both. The answer is SNAPJUDGE_NO_OPTION if form is more than 3. */
 uint32_t snapjudge_explain(const uint8_t *text, size_t text_length, uint32_t events, uint32_t form, uint8_t *out, size_t room, size_t *length);
 
+/* `snapjudge explain --faults N`, with faults for N: of each kind the first fault of each of the first N views that have one. If whole is 1,
+ * all entries of the views of a fault are listed, as with `--all`. The answer is SNAPJUDGE_NO_OPTION if whole is neither 0 nor 1, or if
+ * faults is not from 1 to SNAPJUDGE_FAULTS. */
+uint32_t snapjudge_explain_faults(const uint8_t *text, size_t text_length, uint32_t events, uint32_t whole, uint32_t faults, uint8_t *out,
+                                  size_t room, size_t *length);
+
 /* `snapjudge check --format json` of a file with this name: an object on a line. In the name U+FFFD stands for what is not UTF-8. */
 uint32_t snapjudge_json(const uint8_t *text, size_t text_length, uint32_t events, const uint8_t *name, size_t name_length, uint8_t *out,
                         size_t room, size_t *length);
 
-/* `snapjudge shrink`, or `snapjudge shrink --draw` if drawn is 1: a witness of the first fault, or its picture. The answer is
- * SNAPJUDGE_NO_OPTION if drawn is neither 0 nor 1. */
-uint32_t snapjudge_shrink(const uint8_t *text, size_t text_length, uint32_t events, uint32_t drawn, uint8_t *out, size_t room, size_t *length);
+/* `snapjudge shrink`, `snapjudge shrink --draw` or `snapjudge shrink --map`, by the form: a witness of the first fault, its picture, or which
+ * calls of the history it keeps. The answer is SNAPJUDGE_NO_OPTION if form is not one of the forms of a witness above. */
+uint32_t snapjudge_shrink(const uint8_t *text, size_t text_length, uint32_t events, uint32_t form, uint8_t *out, size_t room, size_t *length);
 
 /* `snapjudge draw`, `snapjudge draw --svg` or `snapjudge draw --text`, by the form, or with `--light` or `--dark`. The answer is
  * SNAPJUDGE_NO_OPTION if form is not one of the forms of a picture above. */
 uint32_t snapjudge_draw(const uint8_t *text, size_t text_length, uint32_t events, uint32_t form, uint8_t *out, size_t room, size_t *length);
+
+/* A part of that picture, as by `--calls`, `--from` and `--around`: of this number of calls, from a call on, or around it. Calls are counted
+ * from 1, and 0 asks for nothing. The answer is SNAPJUDGE_NO_OPTION too if both calls are named, if the history lacks the call, or if calls
+ * is more than 2,000, or with SNAPJUDGE_LINES more than 12. */
+uint32_t snapjudge_draw_calls(const uint8_t *text, size_t text_length, uint32_t events, uint32_t form, uint32_t calls, uint32_t from,
+                              uint32_t around, uint8_t *out, size_t room, size_t *length);
 
 /* `snapjudge stats`, or `snapjudge stats --format json` where object is 1: what the history has shown. It judges nothing, so the answer is
  * 0 for each history. It is SNAPJUDGE_NO_OPTION where object is neither 0 nor 1. */
@@ -95,13 +117,30 @@ uint32_t snapjudge_stats(const uint8_t *text, size_t text_length, uint32_t event
 /* The version of the library. */
 uint32_t snapjudge_version(void);
 
-/* What is asked of a text: by which call, with which option, and the JSON object with which name. It serves the calls below. */
-enum snapjudge_command { SNAPJUDGE_CHECK, SNAPJUDGE_EXPLAIN, SNAPJUDGE_JSON, SNAPJUDGE_SHRINK, SNAPJUDGE_DRAW, SNAPJUDGE_STATS };
+/* What is asked of a text: by which call, with which option, the JSON object with which name, and an explanation by how many faults. It
+ * serves the calls below. */
+enum snapjudge_command {
+    SNAPJUDGE_CHECK,
+    SNAPJUDGE_EXPLAIN,
+    SNAPJUDGE_JSON,
+    SNAPJUDGE_SHRINK,
+    SNAPJUDGE_DRAW,
+    SNAPJUDGE_STATS,
+    SNAPJUDGE_EXPLAIN_FAULTS
+};
 
+/* Which calls are drawn, as snapjudge_draw_calls has it. */
+struct snapjudge_part {
+    uint32_t calls, from, around;
+};
+
+/* Without a part, a picture is the usual one. */
 struct snapjudge_question {
     enum snapjudge_command command;
     uint32_t events, option;
     const char *name;
+    const struct snapjudge_part *part;
+    uint32_t faults;
 };
 
 static inline uint32_t snapjudge_ask(const struct snapjudge_question *asked, const uint8_t *text, size_t text_length, uint8_t *out, size_t room,
@@ -109,10 +148,13 @@ static inline uint32_t snapjudge_ask(const struct snapjudge_question *asked, con
     const uint32_t events = asked->events, option = asked->option;
     switch (asked->command) {
     case SNAPJUDGE_EXPLAIN: return snapjudge_explain(text, text_length, events, option, out, room, length);
+    case SNAPJUDGE_EXPLAIN_FAULTS: return snapjudge_explain_faults(text, text_length, events, option, asked->faults, out, room, length);
     case SNAPJUDGE_JSON:
         return snapjudge_json(text, text_length, events, (const uint8_t *)asked->name, strlen(asked->name), out, room, length);
     case SNAPJUDGE_SHRINK: return snapjudge_shrink(text, text_length, events, option, out, room, length);
-    case SNAPJUDGE_DRAW: return snapjudge_draw(text, text_length, events, option, out, room, length);
+    case SNAPJUDGE_DRAW:
+        if (asked->part == NULL) return snapjudge_draw(text, text_length, events, option, out, room, length);
+        return snapjudge_draw_calls(text, text_length, events, option, asked->part->calls, asked->part->from, asked->part->around, out, room, length);
     case SNAPJUDGE_STATS: return snapjudge_stats(text, text_length, events, option, out, room, length);
     default: return snapjudge_check_limit(text, text_length, events, out, room, length);
     }
@@ -144,32 +186,45 @@ static inline uint32_t snapjudge_ask_new(const struct snapjudge_question *asked,
  * if the answer is above SNAPJUDGE_REFUSED. SNAPJUDGE_NO_ROOM is never answered. */
 
 static inline uint32_t snapjudge_check_new(const char *text, size_t text_length, char **report, size_t *report_length) {
-    const struct snapjudge_question asked = {SNAPJUDGE_CHECK, SNAPJUDGE_EVENTS, 0, ""};
+    const struct snapjudge_question asked = {SNAPJUDGE_CHECK, SNAPJUDGE_EVENTS, 0, "", NULL, 0};
     return snapjudge_ask_new(&asked, text, text_length, report, report_length);
 }
 
 static inline uint32_t snapjudge_explain_new(const char *text, size_t text_length, uint32_t events, uint32_t form, char **out, size_t *length) {
-    const struct snapjudge_question asked = {SNAPJUDGE_EXPLAIN, events, form, ""};
+    const struct snapjudge_question asked = {SNAPJUDGE_EXPLAIN, events, form, "", NULL, 0};
+    return snapjudge_ask_new(&asked, text, text_length, out, length);
+}
+
+static inline uint32_t snapjudge_explain_faults_new(const char *text, size_t text_length, uint32_t events, uint32_t whole, uint32_t faults,
+                                                    char **out, size_t *length) {
+    const struct snapjudge_question asked = {SNAPJUDGE_EXPLAIN_FAULTS, events, whole, "", NULL, faults};
     return snapjudge_ask_new(&asked, text, text_length, out, length);
 }
 
 static inline uint32_t snapjudge_json_new(const char *text, size_t text_length, uint32_t events, const char *name, char **out, size_t *length) {
-    const struct snapjudge_question asked = {SNAPJUDGE_JSON, events, 0, name};
+    const struct snapjudge_question asked = {SNAPJUDGE_JSON, events, 0, name, NULL, 0};
     return snapjudge_ask_new(&asked, text, text_length, out, length);
 }
 
-static inline uint32_t snapjudge_shrink_new(const char *text, size_t text_length, uint32_t events, uint32_t drawn, char **out, size_t *length) {
-    const struct snapjudge_question asked = {SNAPJUDGE_SHRINK, events, drawn, ""};
+static inline uint32_t snapjudge_shrink_new(const char *text, size_t text_length, uint32_t events, uint32_t form, char **out, size_t *length) {
+    const struct snapjudge_question asked = {SNAPJUDGE_SHRINK, events, form, "", NULL, 0};
     return snapjudge_ask_new(&asked, text, text_length, out, length);
 }
 
 static inline uint32_t snapjudge_draw_new(const char *text, size_t text_length, uint32_t events, uint32_t form, char **out, size_t *length) {
-    const struct snapjudge_question asked = {SNAPJUDGE_DRAW, events, form, ""};
+    const struct snapjudge_question asked = {SNAPJUDGE_DRAW, events, form, "", NULL, 0};
+    return snapjudge_ask_new(&asked, text, text_length, out, length);
+}
+
+static inline uint32_t snapjudge_draw_calls_new(const char *text, size_t text_length, uint32_t events, uint32_t form, uint32_t calls, uint32_t from,
+                                                uint32_t around, char **out, size_t *length) {
+    const struct snapjudge_part part = {calls, from, around};
+    const struct snapjudge_question asked = {SNAPJUDGE_DRAW, events, form, "", &part, 0};
     return snapjudge_ask_new(&asked, text, text_length, out, length);
 }
 
 static inline uint32_t snapjudge_stats_new(const char *text, size_t text_length, uint32_t events, uint32_t object, char **out, size_t *length) {
-    const struct snapjudge_question asked = {SNAPJUDGE_STATS, events, object, ""};
+    const struct snapjudge_question asked = {SNAPJUDGE_STATS, events, object, "", NULL, 0};
     return snapjudge_ask_new(&asked, text, text_length, out, length);
 }
 

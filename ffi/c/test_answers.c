@@ -77,8 +77,20 @@ static uint32_t most_of(enum snapjudge_command command) {
     switch (command) {
     case SNAPJUDGE_EXPLAIN: return SNAPJUDGE_WHOLE | SNAPJUDGE_DRAWN;
     case SNAPJUDGE_DRAW: return SNAPJUDGE_DARK_SVG;
+    case SNAPJUDGE_SHRINK: return SNAPJUDGE_WITNESS_MAP;
     default: return 1;
     }
+}
+
+/* Whether numbers of faults that there are not have their answer. */
+static int is_bounded(struct snapjudge_question asked, const struct example *e) {
+    const uint32_t beyond[] = {0, SNAPJUDGE_FAULTS + 1, UINT32_MAX};
+    size_t i;
+    for (i = 0; i < sizeof beyond / sizeof *beyond; i++) {
+        asked.faults = beyond[i];
+        if (!is_refused(asked, e, SNAPJUDGE_EVENTS, asked.option, SNAPJUDGE_NO_OPTION)) return 0;
+    }
+    return 1;
 }
 
 static int is_right(const struct example *e, int q) {
@@ -91,7 +103,8 @@ static int is_right(const struct example *e, int q) {
            fits(&asked, e, q, 0) && is_refused(asked, e, 0, asked.option, SNAPJUDGE_NO_LIMIT) &&
            is_refused(asked, e, 1048577, asked.option, SNAPJUDGE_NO_LIMIT) &&
            (!has_option || (is_refused(asked, e, SNAPJUDGE_EVENTS, most + 1, SNAPJUDGE_NO_OPTION) &&
-                            is_refused(asked, e, SNAPJUDGE_EVENTS, UINT32_MAX, SNAPJUDGE_NO_OPTION)));
+                            is_refused(asked, e, SNAPJUDGE_EVENTS, UINT32_MAX, SNAPJUDGE_NO_OPTION))) &&
+           (asked.command != SNAPJUDGE_EXPLAIN_FAULTS || is_bounded(asked, e));
 }
 
 static void *ask_all(void *failures) {

@@ -36,6 +36,11 @@ struct NoLimit : std::out_of_range {
     using std::out_of_range::out_of_range;
 };
 
+/// There is no such part of a history to draw.
+struct NoPart : std::out_of_range {
+    using std::out_of_range::out_of_range;
+};
+
 /// Component `component` has update `number` with this value.
 struct Entry {
     std::uint32_t component = 0, number = 0, value = 0;
@@ -339,6 +344,8 @@ inline Answer ask(std::string_view text, const snapjudge_question &asked) {
     const std::uint32_t answer = snapjudge_ask_new(&asked, text.data() ? text.data() : "", text.size(), &out, &length);
     const std::unique_ptr<char, void (*)(void *)> owner(out, std::free);
     if (answer == SNAPJUDGE_NO_LIMIT) throw NoLimit("a limit of events is from 1 to 1,048,576, and not " + std::to_string(asked.events));
+    if (answer == SNAPJUDGE_NO_OPTION && asked.command == SNAPJUDGE_DRAW) throw NoPart("the history has no such part");
+    if (answer == SNAPJUDGE_NO_OPTION) throw std::invalid_argument("the number of faults is from 1 to 1,000, and not " + std::to_string(asked.faults));
     if (answer > SNAPJUDGE_REFUSED) throw std::bad_alloc();
     return {static_cast<Status>(answer), std::string(out, length)};
 }
@@ -357,45 +364,68 @@ inline Stats stats_of(const Json &told) {
 inline std::optional<Refusal> refusal_of(const Json &told, std::string_view text, std::uint32_t events) {
     if (!told.has("refused")) return std::nullopt;
     const Json &why = told["refused"];
-    return Refusal{why["record"].small(), why["fault"].text, ask(text, {SNAPJUDGE_EXPLAIN, events, 0, ""}).text};
+    return Refusal{why["record"].small(), why["fault"].text, ask(text, {SNAPJUDGE_EXPLAIN, events, 0, "", nullptr, 0}).text};
 }
 
 } // namespace detail
 
 /// What `snapjudge explain` writes, or `snapjudge explain --draw`.
 inline Answer explain(std::string_view text, bool drawn = false, std::uint32_t events = SNAPJUDGE_EVENTS) {
-    return detail::ask(text, {SNAPJUDGE_EXPLAIN, events, drawn, ""});
+    return detail::ask(text, {SNAPJUDGE_EXPLAIN, events, drawn, "", nullptr, 0});
 }
 
 /// What `snapjudge explain --all` writes, or `snapjudge explain --all --draw`: all entries of the views of a fault are listed.
 inline Answer explain_all(std::string_view text, bool drawn = false, std::uint32_t events = SNAPJUDGE_EVENTS) {
     const std::uint32_t form = drawn ? SNAPJUDGE_WHOLE | SNAPJUDGE_DRAWN : SNAPJUDGE_WHOLE;
-    return detail::ask(text, {SNAPJUDGE_EXPLAIN, events, form, ""});
+    return detail::ask(text, {SNAPJUDGE_EXPLAIN, events, form, "", nullptr, 0});
+}
+
+/// What `snapjudge explain --faults N` writes, with `faults` for N, or with `--all` if `whole`: of each kind the first fault of each of the
+/// first N views that have one. It throws std::invalid_argument if N is not from 1 to 1,000.
+inline Answer explain_faults(std::string_view text, std::uint32_t faults, bool whole = false, std::uint32_t events = SNAPJUDGE_EVENTS) {
+    return detail::ask(text, {SNAPJUDGE_EXPLAIN_FAULTS, events, whole, "", nullptr, faults});
 }
 
 /// What `snapjudge check --format json` writes of a file with this name.
 inline Answer json(std::string_view text, const std::string &name = "-", std::uint32_t events = SNAPJUDGE_EVENTS) {
-    return detail::ask(text, {SNAPJUDGE_JSON, events, 0, name.c_str()});
+    return detail::ask(text, {SNAPJUDGE_JSON, events, 0, name.c_str(), nullptr, 0});
 }
 
 /// What `snapjudge shrink` writes, or `snapjudge shrink --draw`.
 inline Answer shrink(std::string_view text, bool drawn = false, std::uint32_t events = SNAPJUDGE_EVENTS) {
-    return detail::ask(text, {SNAPJUDGE_SHRINK, events, drawn, ""});
+    return detail::ask(text, {SNAPJUDGE_SHRINK, events, drawn, "", nullptr, 0});
+}
+
+/// What `snapjudge shrink --map` writes: which calls of the history the witness keeps.
+inline Answer shrink_map(std::string_view text, std::uint32_t events = SNAPJUDGE_EVENTS) {
+    return detail::ask(text, {SNAPJUDGE_SHRINK, events, SNAPJUDGE_WITNESS_MAP, "", nullptr, 0});
 }
 
 /// What `snapjudge draw` writes, `snapjudge draw --svg` or `snapjudge draw --text`, or with `--light` or `--dark`.
 inline Answer draw(std::string_view text, Form form = Form::page, std::uint32_t events = SNAPJUDGE_EVENTS) {
-    return detail::ask(text, {SNAPJUDGE_DRAW, events, static_cast<std::uint32_t>(form), ""});
+    return detail::ask(text, {SNAPJUDGE_DRAW, events, static_cast<std::uint32_t>(form), "", nullptr, 0});
+}
+
+/// Which calls of a history are drawn: how many, and from which on or around which. Calls are counted from 1, and 0 asks for nothing.
+struct Part {
+    std::uint32_t calls = 0, from = 0, around = 0;
+};
+
+/// What `snapjudge draw` writes with `--calls`, and `--from` or `--around`. It throws NoPart if the history lacks the call, if both calls
+/// are named, or if the form has no room for as many calls.
+inline Answer draw(std::string_view text, const Part &part, Form form = Form::page, std::uint32_t events = SNAPJUDGE_EVENTS) {
+    const snapjudge_part asked{part.calls, part.from, part.around};
+    return detail::ask(text, {SNAPJUDGE_DRAW, events, static_cast<std::uint32_t>(form), "", &asked, 0});
 }
 
 /// What `snapjudge stats` writes.
 inline std::string stats_lines(std::string_view text, std::uint32_t events = SNAPJUDGE_EVENTS) {
-    return detail::ask(text, {SNAPJUDGE_STATS, events, 0, ""}).text;
+    return detail::ask(text, {SNAPJUDGE_STATS, events, 0, "", nullptr, 0}).text;
 }
 
 /// Counts what a run has shown, such as how many views overlap an update. It throws as check does.
 inline Stats stats(std::string_view text, std::uint32_t events = SNAPJUDGE_EVENTS) {
-    const Answer object = detail::ask(text, {SNAPJUDGE_STATS, events, 1, ""});
+    const Answer object = detail::ask(text, {SNAPJUDGE_STATS, events, 1, "", nullptr, 0});
     const detail::Json told = detail::Reader(object.text).value();
     Stats refused;
     refused.refusal = detail::refusal_of(told, text, events);
@@ -405,7 +435,7 @@ inline Stats stats(std::string_view text, std::uint32_t events = SNAPJUDGE_EVENT
 /// Judges a text, whose history may have this many events. It throws NoLimit if there is no such limit, and std::bad_alloc if memory runs
 /// out.
 inline Judged check(std::string_view text, std::uint32_t events = SNAPJUDGE_EVENTS) {
-    Answer report = detail::ask(text, {SNAPJUDGE_CHECK, events, 0, ""});
+    Answer report = detail::ask(text, {SNAPJUDGE_CHECK, events, 0, "", nullptr, 0});
     const Answer object = json(text, "-", events);
     const detail::Json told = detail::Reader(object.text).value();
     Judged made;

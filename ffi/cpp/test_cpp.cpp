@@ -122,6 +122,24 @@ void try_large_view() {
     expect(has(snapjudge::explain_all(text, true), all.text), "all entries, and a picture below");
 }
 
+// Two views that show nothing after an update has ended.
+void try_several() {
+    const auto text = history("begin,0,update,0:1:7\nend,0,update,\nbegin,1,view,\nend,1,view,\nbegin,1,view,\nend,1,view,\n");
+    const auto one = snapjudge::explain(text), both = snapjudge::explain_faults(text, 2);
+    expect(snapjudge::explain_faults(text, 1).text == one.text, "the first fault");
+    expect(both.text.rfind(one.text, 0) == 0 && both.text.find("proximity: view 3") != std::string::npos, "both faults");
+    expect(snapjudge::explain_faults(text, 1000, true).text == both.text, "as many as there are");
+    for (const std::uint32_t faults : {0u, 1001u}) {
+        try {
+            snapjudge::explain_faults(text, faults);
+            expect(false, "a number of faults that there is not");
+        } catch (const std::invalid_argument &) {
+        }
+    }
+    const std::string header = "call,process,begin,end,of call,of process,of begin,of end\n";
+    expect(snapjudge::shrink_map(text).text == header + "1,0,2,3,1,0,2,3\n2,1,4,5,2,1,4,5\n", "the calls of the witness");
+}
+
 void try_texts() {
     const auto text = history("begin,0,update,0:1:7\nend,0,update,\n");
     const auto ends = [](const std::string &all, std::string_view end) { return all.size() > end.size() && all.substr(all.size() - end.size()) == end; };
@@ -131,6 +149,12 @@ void try_texts() {
     expect(ends(snapjudge::draw(text, snapjudge::Form::dark_page).text, "</html>\n"), "a dark page");
     expect(ends(snapjudge::draw(text, snapjudge::Form::dark_svg).text, "</svg>\n"), "a dark picture");
     expect(snapjudge::draw(text, snapjudge::Form::svg).text != snapjudge::draw(text, snapjudge::Form::dark_svg).text, "colours of a dark picture");
+    expect(snapjudge::draw(text, snapjudge::Part{}, snapjudge::Form::svg).text == snapjudge::draw(text, snapjudge::Form::svg).text, "the usual part");
+    try {
+        snapjudge::draw(text, snapjudge::Part{0, 1000, 0});
+        expect(false, "a part that there is not");
+    } catch (const snapjudge::NoPart &) {
+    }
     expect(snapjudge::draw(text, snapjudge::Form::lines).text.find('<') == std::string::npos, "a picture in characters");
     expect(snapjudge::explain(text).text.rfind("atomic: ", 0) == 0, "an explanation");
     expect(snapjudge::json(text, "run.csv").text.rfind("{\"name\":\"run.csv\",\"status\":0,", 0) == 0, "an object with a name");
@@ -146,6 +170,7 @@ int main() {
     try_refused();
     try_stats();
     try_large_view();
+    try_several();
     try_texts();
     std::cout << failures << " failures\n";
     return failures != 0;

@@ -16,13 +16,17 @@ const (
 	shrink
 	draw
 	stats
+	explainFaults
 )
 
-// What is asked of a text: by which command, with which option, and the JSON object with which name.
+// What is asked of a text: by which command, with which option, and the JSON object with which name. A picture is of a part, and an
+// explanation by a number of faults.
 type question struct {
 	command command
 	option  uint32
 	name    []byte
+	part    Part
+	faults  uint32
 }
 
 // The first byte of a text, or another byte if it has none: the library takes no null pointer.
@@ -42,12 +46,15 @@ func (asked question) into(room, text []byte, events uint32) (C.uint32_t, int) {
 	switch asked.command {
 	case explain:
 		status = C.snapjudge_explain(in, length, most, option, out, size, &written)
+	case explainFaults:
+		status = C.snapjudge_explain_faults(in, length, most, option, C.uint32_t(asked.faults), out, size, &written)
 	case object:
 		status = C.snapjudge_json(in, length, most, first(asked.name), C.size_t(len(asked.name)), out, size, &written)
 	case shrink:
 		status = C.snapjudge_shrink(in, length, most, option, out, size, &written)
 	case draw:
-		status = C.snapjudge_draw(in, length, most, option, out, size, &written)
+		calls, from, around := C.uint32_t(asked.part.Calls), C.uint32_t(asked.part.From), C.uint32_t(asked.part.Around)
+		status = C.snapjudge_draw_calls(in, length, most, option, calls, from, around, out, size, &written)
 	case stats:
 		status = C.snapjudge_stats(in, length, most, option, out, size, &written)
 	default:

@@ -67,8 +67,8 @@ func (e *LimitError) Error() string {
 // ErrMemory says that memory ran out.
 var ErrMemory = errors.New("snapjudge: out of memory")
 
-// ErrOption says that a form of a picture is none of the package.
-var ErrOption = errors.New("snapjudge: there is no such form")
+// ErrOption says that a form of a picture is none of the package, or that a history has no such part.
+var ErrOption = errors.New("snapjudge: there is no such form or part")
 
 // ErrVersion says that the library is not of the version that its header names.
 var ErrVersion = errors.New("snapjudge: the library is of another version")
@@ -148,6 +148,18 @@ func ExplainAllDrawn[T Text](text T, chosen ...Option) (Answer, error) {
 	return ask(question{command: explain, option: 3}, []byte(text), eventsOf(chosen))
 }
 
+// ExplainFaults gives what `snapjudge explain --faults N` writes, with faults for N: of each kind the first fault of each of the first N views
+// that have one. The error is ErrOption if N is not from 1 to 1,000.
+func ExplainFaults[T Text](text T, faults uint32, chosen ...Option) (Answer, error) {
+	return ask(question{command: explainFaults, faults: faults}, []byte(text), eventsOf(chosen))
+}
+
+// ExplainAllFaults gives what `snapjudge explain --all --faults N` writes: the sentences of ExplainFaults, with all entries of the views of a
+// fault.
+func ExplainAllFaults[T Text](text T, faults uint32, chosen ...Option) (Answer, error) {
+	return ask(question{command: explainFaults, option: 1, faults: faults}, []byte(text), eventsOf(chosen))
+}
+
 // JSON gives what `snapjudge check --format json` writes of a file with this name: an object on a line.
 func JSON[T Text](text T, name string, chosen ...Option) (Answer, error) {
 	return ask(question{command: object, name: []byte(name)}, []byte(text), eventsOf(chosen))
@@ -163,9 +175,24 @@ func ShrinkDrawn[T Text](text T, chosen ...Option) (Answer, error) {
 	return ask(question{command: shrink, option: 1}, []byte(text), eventsOf(chosen))
 }
 
+// ShrinkMap gives what `snapjudge shrink --map` writes: which calls of the text that history keeps.
+func ShrinkMap[T Text](text T, chosen ...Option) (Answer, error) {
+	return ask(question{command: shrink, option: 2}, []byte(text), eventsOf(chosen))
+}
+
 // Draw gives the picture of a history in this form. The error is ErrOption for a form that there is not.
 func Draw[T Text](text T, form Form, chosen ...Option) (Answer, error) {
 	return ask(question{command: draw, option: uint32(form)}, []byte(text), eventsOf(chosen))
+}
+
+// Part says which calls of a history are drawn: how many, and from which on or around which. Calls are counted from 1, and 0 asks for
+// nothing.
+type Part struct{ Calls, From, Around uint32 }
+
+// DrawPart gives the picture of a part of a history in this form. The error is ErrOption for a form that there is not. It is ErrOption too
+// if the history lacks the call, if both calls are named, or if the form has no room for as many calls.
+func DrawPart[T Text](text T, form Form, part Part, chosen ...Option) (Answer, error) {
+	return ask(question{command: draw, option: uint32(form), part: part}, []byte(text), eventsOf(chosen))
 }
 
 // Stats counts what a run has shown, such as how many views overlap an update. It is not a verdict. Its errors are those of Check.

@@ -106,6 +106,8 @@ func TestACallerChoosesTheLimit(t *testing.T) {
 	}
 	_, err = snapjudge.Draw(view, snapjudge.DarkSVG+1)
 	expect(t, err, snapjudge.ErrOption)
+	_, err = snapjudge.DrawPart(view, snapjudge.SVG, snapjudge.Part{From: 1000})
+	expect(t, err, snapjudge.ErrOption)
 }
 
 func TestAllEntriesOfALargeViewAreToldIfTheyAreAskedFor(t *testing.T) {
@@ -125,6 +127,23 @@ func TestAllEntriesOfALargeViewAreToldIfTheyAreAskedFor(t *testing.T) {
 	expect(t, all.Status, few.Status)
 	drawn, _ := snapjudge.ExplainAllDrawn(text)
 	expect(t, strings.HasPrefix(drawn.Text, all.Text), true)
+}
+
+func TestSeveralFaultsAndTheCallsOfTheWitness(t *testing.T) {
+	text := header + "begin,0,update,0:1:7\nend,0,update,\nbegin,1,view,\nend,1,view,\nbegin,1,view,\nend,1,view,\n"
+	one, _ := snapjudge.Explain(text)
+	first, _ := snapjudge.ExplainFaults(text, 1)
+	both, _ := snapjudge.ExplainAllFaults(text, 2)
+	if first != one || !strings.HasPrefix(both.Text, one.Text) || strings.Count(both.Text, "proximity: view") != 2 {
+		t.Error(first, both)
+	}
+	if _, err := snapjudge.ExplainFaults(text, 1001); !errors.Is(err, snapjudge.ErrOption) {
+		t.Error(err)
+	}
+	table, _ := snapjudge.ShrinkMap(text)
+	if !strings.HasSuffix(table.Text, "of end\n1,0,2,3,1,0,2,3\n2,1,4,5,2,1,4,5\n") {
+		t.Error(table)
+	}
 }
 
 func TestColoursAreChosenByTheForm(t *testing.T) {

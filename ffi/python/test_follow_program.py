@@ -89,6 +89,23 @@ def changed(rows, draw):
     return rows
 
 
+def stamped(rows, draw):
+    """The rows with stamps that rise, some of which are wrong."""
+    stamps = sorted(draw.sample(range(4 * len(rows) + 1), len(rows)))
+    if stamps and draw.randrange(4) == 0:
+        stamps[draw.randrange(len(stamps))] = draw.choice((*stamps, 2**64 - 1, 2**64, "01", ""))
+    return [f"{stamp},{row}" for stamp, row in zip(stamps, rows)]
+
+
+def nearly(rows, count, draw):
+    """The rows in another order, in which fewer than this many later ones come before any."""
+    return [row for _, row in sorted((place + count * draw.random(), row) for place, row in enumerate(rows))]
+
+
+def stamped_text(rows):
+    return "at," + text_of(rows)
+
+
 class Beside(unittest.TestCase):
     def same(self, text, least, *words):
         found = by_program(text, "--window", str(least), *words)
@@ -104,6 +121,27 @@ class Beside(unittest.TestCase):
             text = text_of(changed(history(draw)[1:], draw))
             seen[self.same(text, draw.choice((1, 2, 5)))] += 1
         self.assertTrue(min(seen) > DRAWN / 50, seen)
+
+    def test_drawn_recordings_with_stamps_have_the_same_lines(self):
+        draw, seen = random.Random(37), [0] * 4
+        for _ in range(DRAWN):
+            rows = stamped(changed(history(draw)[1:], draw), draw)
+            draw.shuffle(rows)
+            seen[self.same(stamped_text(rows), draw.choice((1, 2, 5)))] += 1
+        self.assertTrue(min(seen) > DRAWN / 50, seen)
+
+    def test_how_many_records_wait_changes_no_window(self):
+        draw, late = random.Random(38), 0
+        for _ in range(WRITTEN):
+            rows = [f"{stamp},{row}" for stamp, row in enumerate(changed(history(draw)[1:], draw))]
+            text = stamped_text(nearly(rows, 3, draw))
+            found = by_program(text, "--window", "2")
+            for count in ("3", "4", "1048576"):
+                self.assertEqual(by_program(text, "--window", "2", "--late", count), found, text)
+            plain = by_program(text_of(row.partition(",")[2] for row in rows), "--window", "2")
+            self.assertEqual(found[0], plain[0], text)
+            late += ": late\n" in by_program(text, "--window", "2", "--late", "0")[1]
+        self.assertTrue(late > WRITTEN / 10, late)
 
     def test_ends_of_lines_and_quotes_change_no_line(self):
         draw, seen = random.Random(31), [0] * 4
@@ -170,6 +208,38 @@ class Beside(unittest.TestCase):
                 self.assertEqual((ran.returncode, lines), by_module(folder, "--events", least), folder)
                 seen[ran.returncode] += 1
         self.assertTrue(min(seen) > FOLDERS / 50, seen)
+
+    def test_drawn_folders_with_stamps_have_the_same_lines(self):
+        draw, seen = random.Random(39), [0] * 4
+        with tempfile.TemporaryDirectory() as room:
+            rounds = []
+            for number in range(FOLDERS):
+                folder = os.path.join(room, str(number))
+                os.mkdir(folder)
+                rows = stamped(changed(history(draw)[1:], draw), draw)
+                places = sorted(draw.randint(0, len(rows)) for _ in range(draw.randrange(4)))
+                for name, (begin, end) in enumerate(zip([0, *places], [*places, len(rows)])):
+                    part = rows[begin:end]
+                    draw.shuffle(part)
+                    with open(os.path.join(folder, f"{name}.csv"), "w") as file:
+                        file.write(stamped_text(part))
+                least = str(draw.choice((1, 2, 5)))
+                rounds.append((folder, least, program_over(folder, "--window", least)))
+            for folder, least, ran in rounds:
+                lines, _ = ran.communicate(timeout=PATIENCE)
+                self.assertEqual((ran.returncode, lines), by_module(folder, "--events", least), folder)
+                seen[ran.returncode] += 1
+        self.assertTrue(min(seen) > FOLDERS / 50, seen)
+
+    def test_files_of_one_folder_have_one_header(self):
+        for first, second in ((text_of, stamped_text), (stamped_text, text_of)):
+            with tempfile.TemporaryDirectory() as room:
+                for name, text in (("1.csv", first([])), ("2.csv", second([]))):
+                    with open(os.path.join(room, name), "w") as file:
+                        file.write(text)
+                with program_over(room) as ran:
+                    lines, _ = ran.communicate(timeout=PATIENCE)
+                self.assertEqual((ran.returncode, lines.partition("\n")[0]), (3, f"window 1 refused record 1 of {room}/2.csv: header"))
 
     def test_files_come_while_a_folder_is_followed(self):
         with tempfile.TemporaryDirectory() as room:

@@ -191,11 +191,30 @@ class Judge(unittest.TestCase):
         self.assertTrue(snapjudge.explain(text, drawn=True, whole=True).startswith(every))
 
     def test_an_option_that_there_is_not_is_told_and_the_room_stays_as_it_was(self):
-        for call, option in (("explain", 4), ("shrink", 2), ("draw", 6), ("stats", 2), ("draw", (1 << 32) - 1)):
+        for part in ({"first": 2}, {"around": 2}, {"first": 1, "around": 1}, {"calls": 2001}, {"calls": 0}, {"first": -1}):
+            with self.assertRaises(ValueError):
+                snapjudge.draw(HEADER + "begin,0,view,\nend,0,view,\n", **part)
+        for call, option in (("explain", 4), ("shrink", 3), ("draw", 6), ("stats", 2), ("draw", (1 << 32) - 1)):
             room = bytearray(b"\xee" * 100)
             with self.assertRaises(ValueError) as told:
                 snapjudge.answer_into(call, HEADER.encode(), (option,), room)
             self.assertEqual((str(told.exception), room), (f"snapjudge_{call} takes no such option as {(option,)}", b"\xee" * 100))
+
+    def test_several_faults_of_a_kind_are_told_if_they_are_asked_for(self):
+        text = HEADER + "begin,0,update,0:1:7\nend,0,update,\nbegin,1,view,\nend,1,view,\nbegin,1,view,\nend,1,view,\n"
+        self.assertEqual(snapjudge.explain(text, faults=1), snapjudge.explain(text))
+        both = snapjudge.explain(text, faults=2)
+        self.assertTrue(both.startswith(snapjudge.explain(text)))
+        self.assertEqual((both.count("proximity: view"), snapjudge.explain(text, faults=1000)), (2, both))
+        for faults, drawn in ((0, False), (1001, False), (2, True)):
+            with self.assertRaises(ValueError):
+                snapjudge.explain(text, faults=faults, drawn=drawn)
+
+    def test_a_map_names_the_calls_of_the_run(self):
+        text = HEADER + "begin,0,view,\nend,0,view,\nbegin,0,view,\nend,0,view,0:1:7\n"
+        self.assertEqual(snapjudge.shrink(text, map=True), "call,process,begin,end,of call,of process,of begin,of end\n1,0,2,3,2,0,4,5\n")
+        with self.assertRaises(ValueError):
+            snapjudge.shrink(text, map=True, drawn=True)
 
     def test_what_a_run_has_shown(self):
         counts = snapjudge.stats(HEADER + "begin,0,update,0:1:7\nbegin,1,view,\nend,1,view,0:1:7\nbegin,2,view,\nend,2,view,\nend,0,update,\n")
@@ -217,12 +236,18 @@ class Judge(unittest.TestCase):
                  ("explain", "--all"): lambda text: snapjudge.explain(text, whole=True),
                  ("explain", "--all", "--draw"): lambda text: snapjudge.explain(text, drawn=True, whole=True),
                  ("shrink",): snapjudge.shrink, ("shrink", "--draw"): lambda text: snapjudge.shrink(text, drawn=True),
+                 ("shrink", "--map"): lambda text: snapjudge.shrink(text, map=True),
+                 ("explain", "--faults", "3"): lambda text: snapjudge.explain(text, faults=3),
+                 ("explain", "--all", "--faults", "3"): lambda text: snapjudge.explain(text, whole=True, faults=3),
                  ("draw",): snapjudge.draw, ("draw", "--svg"): lambda text: snapjudge.draw(text, "svg"),
                  ("draw", "--text"): lambda text: snapjudge.draw(text, "text"),
                  ("draw", "--light"): lambda text: snapjudge.draw(text, scheme="light"),
                  ("draw", "--dark"): lambda text: snapjudge.draw(text, scheme="dark"),
                  ("draw", "--svg", "--light"): lambda text: snapjudge.draw(text, "svg", scheme="light"),
                  ("draw", "--svg", "--dark"): lambda text: snapjudge.draw(text, "svg", scheme="dark"),
+                 ("draw", "--calls", "2"): lambda text: snapjudge.draw(text, calls=2),
+                 ("draw", "--text", "--calls", "2", "--from", "1"): lambda text: snapjudge.draw(text, "text", calls=2, first=1),
+                 ("draw", "--svg", "--around", "1"): lambda text: snapjudge.draw(text, "svg", around=1),
                  ("stats",): lambda text: snapjudge.answer("stats", text, 0)[1],
                  ("stats", "--format", "json"): lambda text: snapjudge.answer("stats", text, 1)[1]}
         for name, text, _ in examples():

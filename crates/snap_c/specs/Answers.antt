@@ -5,23 +5,23 @@ use Rattle.snap_verdict.specs.declared.status.Status.{Status}
 use Rattle.snap_verdict.specs.Statuses.{code_of}
 use Rattle.snap_verdict.specs.Reports.{IsReport}
 use Rattle.snap_c.specs.declared.question.Question.{Question}
-use Rattle.snap_c.specs.Questions.{IsAnswerTo}
+use Rattle.snap_c.specs.Questions.{IsAnswerTo, IsCertain}
 
 -- the whole answer is at the front of the room, and after it is what was there before
-pub record IsFilled (Is : Status → List ℕ → Type 0) (old new : List ℕ) (needed code : ℕ) : Type 0 where
+pub record IsFilled (Is : Option Status → List ℕ → Type 0) (old new : List ℕ) (needed code : ℕ) : Type 0 where
   pub status : Status
   pub out : List ℕ
-  pub is : Is status out
+  pub is : Is (Some status) out
   pub answers : code ≡ code_of status
   pub needs : needed ≡ length out
   pub fits : length out ≤ length old
   pub writes : new ≡ out ++ drop (length out) old
 
 -- the answer does not fit: nothing was written but its length
-pub record IsShort (Is : Status → List ℕ → Type 0) (old new : List ℕ) (needed code : ℕ) : Type 0 where
+pub record IsShort (Is : Option Status → List ℕ → Type 0) (old new : List ℕ) (needed code : ℕ) : Type 0 where
   pub status : Status
   pub out : List ℕ
-  pub is : Is status out
+  pub is : Is (Some status) out
   pub answers : code ≡ 5
   pub needs : needed ≡ length out
   pub too_long : length old < length out
@@ -33,9 +33,16 @@ pub record IsUnwritten (reason : ℕ) (old new : List ℕ) (needed code : ℕ) :
   pub needs : needed ≡ 0
   pub writes : new ≡ old
 
--- the answer, or that it does not fit, or that memory ran out
-abbrev pub IsAnswered : (Status → List ℕ → Type 0) → List ℕ → List ℕ → ℕ → ℕ → Type 0
-IsAnswered Is old new needed code = IsFilled Is old new needed code ⊎ (IsShort Is old new needed code ⊎ IsUnwritten 4 old new needed code)
+-- nothing was written, since the history lacks a call that was named
+pub record IsLacking (Is : Option Status → List ℕ → Type 0) (old new : List ℕ) (needed code : ℕ) : Type 0 where
+  pub out : List ℕ
+  pub is : Is None out
+  pub unwritten : IsUnwritten 7 old new needed code
+
+-- the answer, or that it does not fit, or that memory ran out, or that there is no answer
+abbrev pub IsAnswered : (Option Status → List ℕ → Type 0) → List ℕ → List ℕ → ℕ → ℕ → Type 0
+IsAnswered Is old new needed code =
+    IsFilled Is old new needed code ⊎ (IsShort Is old new needed code ⊎ (IsUnwritten 4 old new needed code ⊎ IsLacking Is old new needed code))
 
 -- the answer to a text if there is such a limit of events, and if there is none
 abbrev pub IsWithin : ℕ → (List ℕ → List ℕ → ℕ → ℕ → Type 0) → List ℕ → List ℕ → ℕ → ℕ → Type 0
@@ -43,7 +50,7 @@ IsWithin events Is old new needed code = (IsLimit events × Is old new needed co
 
 -- the report of a text
 abbrev pub IsChecked : ℕ → List ℕ → List ℕ → List ℕ → ℕ → ℕ → Type 0
-IsChecked limit text = IsAnswered (IsReport limit text)
+IsChecked limit text = IsAnswered (IsCertain (IsReport limit text))
 
 -- the report of a text, if there is such a limit of events
 abbrev pub IsCheckedFor : ℕ → List ℕ → List ℕ → List ℕ → ℕ → ℕ → Type 0

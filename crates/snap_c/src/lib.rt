@@ -4,16 +4,17 @@
 ghost use Rattle.std.specs.Prelude.{◌≡◌, Some, slice_get};
 ghost use Rattle.snap_core.specs.Limits.{event_limit};
 ghost use Rattle.snap_c.specs.Answers.{IsAnswered, IsAnsweredFor, IsChecked, IsCheckedFor};
-ghost use Rattle.snap_c.specs.Questions.{IsAnswerTo, counts, explanations, pictures, witnesses};
+ghost use Rattle.snap_c.specs.Questions.{IsAnswerTo, counts, explanation_of as spec_explanation_of, explanations, picture_asked as spec_picture_asked, usual_window as spec_usual_window, window_asked as spec_window_asked, witnesses};
 ghost use Rattle.snap_c.specs.declared.question.Question.TheVariants.{Object};
 ghost use Rattle.snap_c.specs.declared.version.TheConstants.{VERSION as version};
 
 mod question;
 mod version;
 
-use question::{Question, answer_to, chosen};
+use question::{
+    Question, answer_to, chosen, explanation_of, picture_asked, usual_window, window_asked,
+};
 use snap_core::Limit;
-use snap_draw::Scheme;
 use snap_explain::Entries;
 use std::alloc::Global;
 use version::VERSION;
@@ -42,7 +43,7 @@ fn answer(
     ensures { IsAnswered (IsAnswerTo question.entry limit.events text.now) out.old out.new length.new result }
 {
     match answer_to(alloc, question, text, limit) {
-        Ok((status, answer)) => {
+        Ok((Some(status), answer)) => {
             let needed = answer.len();
             *length = needed;
             if needed > out.len() {
@@ -50,6 +51,10 @@ fn answer(
             }
             out[..needed].copy_from_slice(&answer);
             u32::from(status.code())
+        }
+        Ok((None, _)) => {
+            *length = 0;
+            NO_OPTION
         }
         Err(_) => {
             *length = 0;
@@ -127,13 +132,32 @@ pub extern "C" fn snapjudge_explain(
 {
     let asked = chosen(
         &[
-            Question::Explanation(Entries::OfFault),
+            Question::Explanation(Entries::OfFault, 1),
             Question::ExplanationDrawn(Entries::OfFault),
-            Question::Explanation(Entries::Whole),
+            Question::Explanation(Entries::Whole, 1),
             Question::ExplanationDrawn(Entries::Whole),
         ],
         form,
     );
+    answer_within(alloc, asked, text, events, out, length)
+}
+
+/// Explains a text as `snapjudge explain --faults N` does, with `faults` for N, which is 1 to 1,000. If `whole` is 1, the views of a
+/// fault are listed whole too, as by `--all`. The answer is 7 if `whole` is more, or if there is no such number of faults. Everything
+/// else is as in `snapjudge_explain`.
+#[unsafe(no_mangle)]
+pub extern "C" fn snapjudge_explain_faults(
+    alloc: Global,
+    text: &[u8],
+    events: u32,
+    whole: u32,
+    faults: u32,
+    out: &mut [u8],
+    length: &mut usize,
+) -> u32
+    ensures { IsAnsweredFor events (spec_explanation_of whole faults) text.now out.old out.new length.new result }
+{
+    let asked = explanation_of(whole, faults);
     answer_within(alloc, asked, text, events, out, length)
 }
 
@@ -154,20 +178,28 @@ pub extern "C" fn snapjudge_json(
     answer_within(alloc, asked, text, events, out, length)
 }
 
-/// Cuts a history down to a witness as `snapjudge shrink` does, or draws the witness as `snapjudge shrink --draw` does if `drawn` is
-/// 1. The answer is 7 if it is more. Everything else is as in `snapjudge_explain`.
+/// Cuts a history down to a witness as `snapjudge shrink` does if `form` is 0. If it is 1, it draws the witness as
+/// `snapjudge shrink --draw` does. If it is 2, it writes which calls of the history the witness keeps, as `snapjudge shrink --map` does.
+/// The answer is 7 if it is more. Everything else is as in `snapjudge_explain`.
 #[unsafe(no_mangle)]
 pub extern "C" fn snapjudge_shrink(
     alloc: Global,
     text: &[u8],
     events: u32,
-    drawn: u32,
+    form: u32,
     out: &mut [u8],
     length: &mut usize,
 ) -> u32
-    ensures { IsAnsweredFor events (slice_get witnesses drawn) text.now out.old out.new length.new result }
+    ensures { IsAnsweredFor events (slice_get witnesses form) text.now out.old out.new length.new result }
 {
-    let asked = chosen(&[Question::Witness, Question::WitnessDrawn], drawn);
+    let asked = chosen(
+        &[
+            Question::Witness,
+            Question::WitnessDrawn,
+            Question::WitnessMap,
+        ],
+        form,
+    );
     answer_within(alloc, asked, text, events, out, length)
 }
 
@@ -183,19 +215,31 @@ pub extern "C" fn snapjudge_draw(
     out: &mut [u8],
     length: &mut usize,
 ) -> u32
-    ensures { IsAnsweredFor events (slice_get pictures form) text.now out.old out.new length.new result }
+    ensures { IsAnsweredFor events (spec_picture_asked form (Some (spec_usual_window form))) text.now out.old out.new length.new result }
 {
-    let asked = chosen(
-        &[
-            Question::Page(None),
-            Question::Svg(Scheme::Light),
-            Question::Lines,
-            Question::Page(Some(Scheme::Light)),
-            Question::Page(Some(Scheme::Dark)),
-            Question::Svg(Scheme::Dark),
-        ],
-        form,
-    );
+    let asked = picture_asked(form, Some(usual_window(form)));
+    answer_within(alloc, asked, text, events, out, length)
+}
+
+/// Draws a part of a history as `snapjudge draw --calls N` does. `calls` is the number N of its calls, or 0 for the usual number of the
+/// form. It begins with call `from` as by `--from`, or is around call `around` as by `--around`. Calls are counted from 1, and 0
+/// names none. The answer is 7 too if both are named, if the form has no room for as many calls, or if the history lacks the call.
+/// Everything else is as in `snapjudge_draw`.
+#[unsafe(no_mangle)]
+pub extern "C" fn snapjudge_draw_calls(
+    alloc: Global,
+    text: &[u8],
+    events: u32,
+    form: u32,
+    calls: u32,
+    from: u32,
+    around: u32,
+    out: &mut [u8],
+    length: &mut usize,
+) -> u32
+    ensures { IsAnsweredFor events (spec_picture_asked form (spec_window_asked form calls from around)) text.now out.old out.new length.new result }
+{
+    let asked = picture_asked(form, window_asked(form, calls, from, around));
     answer_within(alloc, asked, text, events, out, length)
 }
 

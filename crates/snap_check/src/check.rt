@@ -115,8 +115,8 @@ fn judge<Rt: Threads + Sync, R: Read, G: Gate>(
 ///
 /// If quiet, it writes only the lines of the three verdicts of a history's report. The line of a text that is not a history stays
 /// as it is. The limit of events replaces the usual one, and 1,024 bytes for each event replace the usual limit of bytes. A text of
-/// fewer bytes than `alone_below` has one worker and one piece. Any other text has the workers of the cutting. It has
-/// `SHARED_PIECES` pieces if `finer` is set, and else those of the cutting.
+/// fewer bytes than `alone_below` has one worker and one piece. Any other text has the workers of the cutting, and the pieces of
+/// [`cutting_for`].
 ///
 /// What `check_run` promises about devices, memory and waiting is true here too.
 pub fn check_run_with<Rt: Threads + Sync, R: Read, W: Write, G: Gate>(

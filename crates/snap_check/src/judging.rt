@@ -111,8 +111,8 @@ impl Judging for Alone {
     }
 }
 
-/// Workers of a runtime, by a cutting. One of them judges a text of fewer bytes than `alone_below`. Any other text has
-/// `SHARED_PIECES` pieces if `finer` is set, and else those of the cutting.
+/// Workers of a runtime, by a cutting. One of them judges a text of fewer bytes than `alone_below`. The pieces of any other text are
+/// those of [`cutting_for`].
 #[derive(Drop)]
 pub struct Workers<'r, Rt> {
     pub rt: &'r Rt,

@@ -1,5 +1,5 @@
 //! How many workers judge a text, and in how many pieces.
-ghost use Rattle.std.specs.Prelude.{◌≡◌, ◌<◌, ◌≤◌, MatchBool, false};
+ghost use Rattle.std.specs.Prelude.{◌≡◌, ◌<◌, ◌≤◌, false, true};
 
 use snap_threads::Cutting;
 
@@ -11,17 +11,21 @@ pub const SHARED_FROM: usize = 196_608;
 pub const SHARED_PIECES: u32 = 256;
 
 /// The cutting for a text of this many bytes. A text of fewer bytes than `alone_below` has one piece for one worker. Any other text
-/// has the workers that were asked for. It has `SHARED_PIECES` pieces if `finer` is set, and else those that were asked for.
+/// has the workers that were asked for. It has the pieces that were asked for, unless `finer` is set. Then it has `SHARED_PIECES`
+/// pieces if several workers share it, and one piece if there is one worker.
 pub fn cutting_for(bytes: usize, alone_below: usize, finer: bool, asked: Cutting) -> Cutting
     ensures short { bytes < alone_below → (result.workers ≡ 1) × (result.pieces ≡ 1) }
     ensures workers { alone_below ≤ bytes → result.workers ≡ asked.workers }
-    ensures pieces { alone_below ≤ bytes → MatchBool finer (result.pieces ≡ SHARED_PIECES) (result.pieces ≡ asked.pieces) }
+    ensures pieces { alone_below ≤ bytes → finer ≡ false → result.pieces ≡ asked.pieces }
+    ensures shared { alone_below ≤ bytes → finer ≡ true → 1 < asked.workers → result.pieces ≡ SHARED_PIECES }
+    ensures alone { alone_below ≤ bytes → finer ≡ true → asked.workers ≡ 1 → result.pieces ≡ 1 }
     ensures plain { alone_below ≡ 0 → finer ≡ false → result ≡ asked }
 {
-    let (pieces, workers) = if bytes < alone_below {
+    let workers = asked.workers();
+    let (pieces, workers) = if bytes < alone_below || finer && workers == 1 {
         (1, 1)
     } else if finer {
-        (SHARED_PIECES, asked.workers())
+        (SHARED_PIECES, workers)
     } else {
         return asked;
     };

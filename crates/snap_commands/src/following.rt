@@ -80,6 +80,7 @@ fn follow_texts<Rt: Wait, T: Texts>(
     let options = FollowOptions {
         least: windows.least,
         most: limit,
+        late: windows.late,
         until: until_of(name, windows),
         views: windows.views,
     };

@@ -2,6 +2,7 @@
 //! and starts a run. Layers before the system show colours of the verdicts, and the progress of a check of many texts.
 #![tactic(auto)]
 
+mod drawing;
 mod failure;
 mod files;
 mod following;
@@ -15,6 +16,7 @@ mod shown;
 mod verdicts;
 mod watched;
 
+pub use drawing::draw;
 pub use failure::Failure;
 pub use files::{open_only, system};
 pub use following::follow;
@@ -23,7 +25,7 @@ pub use outlet::Outlet;
 pub use painted::Painted;
 pub use progress::Progress;
 pub use refusal::too_few_views;
-pub use runs::{draw, explain, record, shrink, stats};
+pub use runs::{explain, record, shrink, stats};
 pub use shown::{in_colors, progress_of};
 pub use verdicts::send_painted;
 pub use watched::{Cleared, Watched};

@@ -4,6 +4,7 @@ ghost use Rattle.snap_check.specs.Runs.{WroteBy};
 ghost use Rattle.snap_core.specs.Counting.{inner_of};
 ghost use Rattle.snap_record.specs.Plans.{AreRounds, AreWorkers, rounds_scripts};
 ghost use Rattle.snap_runs.specs.Explaining.{IsExplained};
+ghost use Rattle.snap_runs.specs.Mapping.{IsMapped};
 ghost use Rattle.snap_runs.specs.Recordings.{IsRecorded, IsStampedRecording, WroteAs};
 ghost use Rattle.snap_runs.specs.Shrinking.{IsShrunk};
 ghost use Rattle.snap_runs.specs.Stats.{IsCounted};
@@ -14,13 +15,13 @@ use crate::files::open_only;
 use crate::outlet::Outlet;
 use snap_check::{RunFault, Status};
 use snap_core::{Counted, Limit};
-use snap_draw::Scheme as Colours;
+use snap_draw::Window;
 use snap_explain::Entries;
 use snap_runs::{
-    Explained, Lines, Page, Svg, draw_run, draw_witness_run, explain_run, record_seeded_rounds,
+    Explained, Lines, draw_run, draw_witness_run, explain_run, map_run, record_seeded_rounds,
     record_seeded_rounds_stamped, shrink_run, stats_run,
 };
-use snap_words::{Form, Scheme};
+use snap_words::Shrunk;
 use std::alloc::Global;
 use std::io::{Read, Write};
 use std::sync::Wait;
@@ -36,39 +37,46 @@ fn code_of<W>(ended: Result<Status, RunFault>, outlet: &Outlet<W>) -> Result<u8,
     }
 }
 
-// Cuts a reader's history down to a witness, or draws the witness.
+// Cuts a reader's history down to a witness, and writes that, its picture, or which calls it keeps.
 fn shrink_from<Rt: Threads + Sync, R: Read, W: Write>(
     rt: &Rt,
     alloc: Global,
     reader: &mut Counted<R>,
     writer: &mut Counted<W>,
-    drawn: bool,
+    shrunk: Shrunk,
     limit: Limit,
 ) -> Result<Status, RunFault>
-    ensures text { drawn ≡ false → WroteBy (IsShrunk limit.events) (R.remaining (inner_of reader.old)) (W.contents (inner_of writer.old)) (W.contents (inner_of writer.new)) result }
+    ensures text { shrunk ≡ Shrunk.Witness → WroteBy (IsShrunk limit.events) (R.remaining (inner_of reader.old)) (W.contents (inner_of writer.old)) (W.contents (inner_of writer.new)) result }
+    ensures map { shrunk ≡ Shrunk.Map → WroteBy (IsMapped limit.events) (R.remaining (inner_of reader.old)) (W.contents (inner_of writer.old)) (W.contents (inner_of writer.new)) result }
 {
-    if drawn {
-        draw_witness_run(rt, alloc, &Lines, reader, writer, limit)
-    } else {
-        shrink_run(rt, alloc, reader, writer, limit)
+    match shrunk {
+        Shrunk::Witness => shrink_run(rt, alloc, reader, writer, limit),
+        Shrunk::Picture => {
+            let lines = Lines {
+                window: Window::usual_lines(),
+            };
+            draw_witness_run(rt, alloc, &lines, reader, writer, limit)
+        }
+        Shrunk::Map => map_run(rt, alloc, reader, writer, limit),
     }
 }
 
-/// Cuts the history in the only text down to a witness, or draws the witness. It gives the exit status.
+/// Cuts the history in the only text down to a witness, and writes that, its picture, or which calls it keeps. It gives the exit
+/// status.
 pub fn shrink<Rt: Threads + Sync>(
     rt: &Rt,
     host: &HostRuntime,
     file: &Option<Vec<u8>>,
-    drawn: bool,
+    shrunk: Shrunk,
     limit: Limit,
 ) -> Result<u8, Failure> {
     let mut reader = Counted::new(open_only(host, file)?);
     let mut writer = Counted::new(Outlet::new(host.stdout()));
-    let ended = shrink_from(rt, host.alloc(), &mut reader, &mut writer, drawn, limit);
+    let ended = shrink_from(rt, host.alloc(), &mut reader, &mut writer, shrunk, limit);
     code_of(ended, &writer.into_inner())
 }
 
-// Explains a reader's history, with a picture or without, and lists these entries of the views of a fault.
+// Explains a reader's history, with a picture or by this many faults of a kind, and lists these entries of the views of a fault.
 fn explain_from<Rt: Threads + Sync, R: Read, W: Write>(
     rt: &Rt,
     alloc: Global,
@@ -76,14 +84,19 @@ fn explain_from<Rt: Threads + Sync, R: Read, W: Write>(
     writer: &mut Counted<W>,
     drawn: bool,
     listed: Entries,
+    faults: u32,
     limit: Limit,
 ) -> Result<Status, RunFault>
-    ensures text { drawn ≡ false → WroteBy (IsExplained limit.events listed) (R.remaining (inner_of reader.old)) (W.contents (inner_of writer.old)) (W.contents (inner_of writer.new)) result }
+    ensures text { drawn ≡ false → WroteBy (IsExplained limit.events listed faults) (R.remaining (inner_of reader.old)) (W.contents (inner_of writer.old)) (W.contents (inner_of writer.new)) result }
 {
     if drawn {
-        draw_run(rt, alloc, &Explained { listed }, reader, writer, limit)
+        let explained = Explained { listed };
+        match draw_run(rt, alloc, &explained, reader, writer, limit)? {
+            Some(status) => Ok(status),
+            None => unreachable!(),
+        }
     } else {
-        explain_run(rt, alloc, reader, writer, listed, limit)
+        explain_run(rt, alloc, reader, writer, listed, faults, limit)
     }
 }
 
@@ -99,14 +112,15 @@ fn entries_of(whole: bool) -> Entries
     }
 }
 
-/// Explains the history in the only text, with a picture or without, and with all entries of the views of a fault or without. It gives
-/// the exit status.
+/// Explains the history in the only text, with a picture or by this many faults of a kind, and with all entries of the views of a fault
+/// or without. It gives the exit status.
 pub fn explain<Rt: Threads + Sync>(
     rt: &Rt,
     host: &HostRuntime,
     file: &Option<Vec<u8>>,
     drawn: bool,
     whole: bool,
+    faults: u32,
     limit: Limit,
 ) -> Result<u8, Failure> {
     let mut reader = Counted::new(open_only(host, file)?);
@@ -119,50 +133,9 @@ pub fn explain<Rt: Threads + Sync>(
         &mut writer,
         drawn,
         listed,
+        faults,
         limit,
     );
-    code_of(ended, &writer.into_inner())
-}
-
-// The colours that are asked for, or nothing if they are left to the reader's system.
-fn colours_of(scheme: Scheme) -> Option<Colours>
-    ensures reader { scheme ≡ Scheme.Reader → result ≡ None }
-    ensures light { scheme ≡ Scheme.Light → result ≡ Some Colours.Light }
-    ensures dark { scheme ≡ Scheme.Dark → result ≡ Some Colours.Dark }
-{
-    match scheme {
-        Scheme::Reader => None,
-        Scheme::Light => Some(Colours::Light),
-        Scheme::Dark => Some(Colours::Dark),
-    }
-}
-
-/// Draws the history in the only text. It gives the exit status.
-pub fn draw<Rt: Threads + Sync>(
-    rt: &Rt,
-    host: &HostRuntime,
-    file: &Option<Vec<u8>>,
-    form: Form,
-    limit: Limit,
-) -> Result<u8, Failure> {
-    let alloc = host.alloc();
-    let mut reader = Counted::new(open_only(host, file)?);
-    let mut writer = Counted::new(Outlet::new(host.stdout()));
-    let ended = match form {
-        Form::Page(scheme) => {
-            let page = Page {
-                scheme: colours_of(scheme),
-            };
-            draw_run(rt, alloc, &page, &mut reader, &mut writer, limit)
-        }
-        Form::Svg(scheme) => {
-            let svg = Svg {
-                scheme: colours_of(scheme).unwrap_or(Colours::Light),
-            };
-            draw_run(rt, alloc, &svg, &mut reader, &mut writer, limit)
-        }
-        Form::Lines => draw_run(rt, alloc, &Lines, &mut reader, &mut writer, limit),
-    };
     code_of(ended, &writer.into_inner())
 }
 

@@ -9,6 +9,7 @@ mod records;
 mod refusal;
 mod rows;
 mod stamped;
+mod stamped_line;
 mod writing;
 
 pub use line::{is_header_line, read_line};
@@ -17,4 +18,5 @@ pub use records::{read_records, record_of};
 pub use refusal::WriteRefusal;
 pub use snap_format::{ReadRefusal, bytes_within, fault_for};
 pub use snap_text::{TextFault, fields_of};
+pub use stamped_line::{is_stamped_header_line, read_stamped_line};
 pub use writing::{write_history, write_history_stamped};

@@ -16,8 +16,12 @@ use snap_rows::event_of_record;
 use snap_text::{Known, TextFault};
 use std::alloc::{AllocError, Global};
 
-// Reads the first record of a line, and says whether it is the only one; none if the line has no record.
-fn only_row(alloc: Global, line: &[u8], row: &mut ByteRecord) -> Result<Option<bool>, AllocError>
+/// Reads the first record of a line, and says whether it is the only one; none if the line has no record.
+pub(crate) fn only_row(
+    alloc: Global,
+    line: &[u8],
+    row: &mut ByteRecord,
+) -> Result<Option<bool>, AllocError>
     ensures { IfOk result (λ found. MatchOption found (rows_of line.now ≡ []) (HasFirst (rows_of line.now) (fields_of row.new))) }
 {
     only_row_left(alloc, &mut reader_of(alloc, line), row)

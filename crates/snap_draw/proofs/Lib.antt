@@ -1,3 +1,4 @@
 pub mod Cut
 pub mod Made
 pub mod MoreLines
+pub mod MorePieces

@@ -9,7 +9,8 @@ use Rattle.snap_draw.specs.declared.shapes.Bar.{Bar}
 use Rattle.snap_draw.specs.declared.shapes.Shapes.{Shapes}
 use Rattle.snap_draw.specs.Calls.{drawn_call}
 use Rattle.snap_draw.specs.Marks.{marks_of}
-use Rattle.snap_draw.specs.Window.{window_of}
+use Rattle.snap_draw.specs.declared.window.Window.{Window}
+use Rattle.snap_draw.specs.Window.{drawn_in}
 
 abbrev pub has_process : List Drawn → ℕ → Bool
 has_process calls process = list_any (λ (d : Drawn). d.call.process == process) calls
@@ -57,9 +58,9 @@ bar_of lanes places order d =
 abbrev pub bars_of : List ℕ → List Drawn → List Bar
 bars_of order calls = map (bar_of (lanes_of calls) (places_of calls) order) calls
 
--- the calls of a history that are drawn, in a window that has a limit
-abbrev pub calls_drawn : ℕ → List Call → Tally → List Drawn
-calls_drawn limit calls t = window_of limit (marks_of calls t) (map drawn_call calls)
+-- the calls of a history that are drawn in a window
+abbrev pub calls_drawn : Window → List Call → Tally → List Drawn
+calls_drawn window calls t = drawn_in window.place window.calls (marks_of calls t) (map drawn_call calls)
 
 -- the shapes of the calls that are drawn, with an order and with marks. They have a lane for each process, a bar for each call and no
 -- other, and a column for each event

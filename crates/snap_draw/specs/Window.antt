@@ -1,8 +1,12 @@
 -- Which calls are drawn.
-use Rattle.std.specs.Prelude.{ℕ, ◌-◌, Bool, false, ◌&&◌, ◌||◌, List, ◌==◌, nat_lt, nat_le, Option, Some, None, filter, length, not, take, if◌then◌else◌}
+use Rattle.std.specs.Prelude.{ℕ, ◌-◌, ◌/◌, min, Bool, true, false, ◌&&◌, ◌||◌, List, ◌==◌, nat_lt, nat_le, Option, Some, None, filter, length, not, take, if◌then◌else◌}
 use Rattle.std.specs.List.{list_any}
 use Rattle.snap_draw.specs.declared.drawn.Drawn.{Drawn}
 use Rattle.snap_draw.specs.declared.marks.Mark.{Mark}
+use Rattle.snap_draw.specs.declared.window.TheConstants.{LINE_CALLS, PAGE_CALLS}
+use Rattle.snap_draw.specs.declared.window.Place.{Place}
+use Rattle.snap_draw.specs.declared.window.Place.TheVariants.{Faults, From, Around}
+use Rattle.snap_draw.specs.declared.window.Window.{Window}
 
 abbrev pub is_marked : List Mark → ℕ → Bool
 is_marked marks number = list_any (λ (m : Mark). m.call == number) marks
@@ -45,3 +49,32 @@ unfoldable pub window_of : ℕ → List Mark → List Drawn → List Drawn
 window_of limit marks calls =
     if nat_le (length calls) limit then calls
     else marked_or_among marks (near_calls limit marks calls) calls
+
+-- the first calls whose numbers are no less than a first one, up to a count
+abbrev pub calls_from : ℕ → ℕ → List Drawn → List Drawn
+calls_from first count calls = take count (filter (λ (d : Drawn). nat_le first d.number) calls)
+
+-- The number of the first call of a window around a call, of a history of `all` calls. Half of the window is before the call. Near an end
+-- of the history it is moved, so that it has as many calls as it can
+abbrev pub first_around : ℕ → ℕ → ℕ → ℕ
+first_around count all call = min (call - count / 2) (all - count)
+
+-- the calls of a window, of all calls of a history
+abbrev pub drawn_in : Place → ℕ → List Mark → List Drawn → List Drawn
+drawn_in Faults count marks calls = window_of count marks calls
+drawn_in (From call) count marks calls = calls_from call count calls
+drawn_in (Around call) count marks calls = calls_from (first_around count (length calls) call) count calls
+
+-- a history of `all` calls has the call that a place names
+abbrev pub has_call : Place → ℕ → Bool
+has_call Faults all = true
+has_call (From call) all = nat_lt call all
+has_call (Around call) all = nat_lt call all
+
+-- the windows of a picture if no other is asked for
+
+abbrev pub usual_page : Window
+usual_page = record { calls = PAGE_CALLS; place = Faults }
+
+abbrev pub usual_lines : Window
+usual_lines = record { calls = LINE_CALLS; place = Faults }

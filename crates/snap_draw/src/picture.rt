@@ -3,10 +3,11 @@ use crate::shapes::Shapes;
 use snap_index::Index;
 
 /// What a picture shows: the shapes of a history, its index, the records of its events, the numbers of its printed order, and the
-/// explanation. There are no numbers if the history is not atomic.
+/// explanation. There are no numbers if the history is not atomic. A page of a long history has the shapes of its pieces too.
 #[derive(Clone, Copy)]
 pub struct Picture<'a, 'h> {
     pub shapes: &'a Shapes,
+    pub parts: &'a [Shapes],
     pub index: &'a Index<'h>,
     pub records: &'a [u32],
     pub order: &'a [u32],

@@ -7,7 +7,7 @@ ghost use Rattle.snap_draw.specs.Timelines.{AreShapes, bar_of as spec_bar_of, ca
 
 use crate::drawn::{Drawn, all_calls};
 use crate::marks::{Mark, marks};
-use crate::window::window;
+use crate::window::{Window, calls_in};
 use snap_conditions::Tally;
 use snap_index::Index;
 use std::alloc::{AllocError, Global};
@@ -124,8 +124,8 @@ fn bars_of(
         .collect(alloc)
 }
 
-// The shapes of the calls that are drawn.
-fn shapes_with(
+/// The shapes of the calls that are drawn.
+pub(crate) fn shapes_with(
     alloc: Global,
     calls: &[Drawn],
     marks: Vec<Mark>,
@@ -145,19 +145,19 @@ fn shapes_with(
 }
 
 /// The shapes of a history, by its index, the tally of all its completed views, and the numbers of the printed order. There are no
-/// numbers if the history is not atomic. Of a history with more calls than the limit, a window of that many is drawn.
+/// numbers if the history is not atomic. The calls of a window are drawn.
 pub fn shapes_of(
     alloc: Global,
     index: &Index<'_>,
     tally: &Tally,
     order: &[u32],
-    limit: usize,
+    window: Window,
 ) -> Result<Shapes, AllocError>
     requires tally { tally.now ≡ tally_of (calls_of index.now) (views_of (calls_of index.now)) }
-    ensures { IfOk result (AreShapes order.now (marks_of (calls_of index.now) tally.now) (calls_drawn limit (calls_of index.now) tally.now)) }
+    ensures { IfOk result (AreShapes order.now (marks_of (calls_of index.now) tally.now) (calls_drawn window (calls_of index.now) tally.now)) }
 {
     let marks = marks(alloc, index, tally)?;
     let calls = all_calls(alloc, index)?;
-    let calls = window(alloc, limit, &marks, calls)?;
+    let calls = calls_in(alloc, window, &marks, calls)?;
     shapes_with(alloc, &calls, marks, order)
 }

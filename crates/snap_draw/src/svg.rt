@@ -4,26 +4,30 @@ ghost use Rattle.snap_draw.specs.Ends.{EndsPage, EndsSvg};
 
 use crate::picture::{Picture, front_of, is_sentence, verdict_of};
 use crate::shapes::Shapes;
-use crate::words::{label_of, place_at, record_at};
+use crate::words::{place_at, record_at, short_label};
 use backs::put_backs;
 use calls::{next_of, put_calls};
+use held::{put_extent, put_piece, put_reasons, put_steps};
 use look::{GROUND, WHOLE};
-use page::{HEAD, STYLE, TAIL, put_colours};
+use page::{HEAD, MOVES, STYLE, TAIL, put_colours};
 use parts::{put_escaped, put_parts};
 use points::{points_of, put_line, put_places};
 use scale::{LANE, MARGIN, TOP, WIDE, across, right_of, scaled, x_of, y_of};
 use scheme::put_coloured;
+use script::SCRIPT;
 use std::alloc::{AllocError, Global};
 use strip::put_strip;
 
 mod backs;
 mod calls;
+mod held;
 mod look;
 mod page;
 mod parts;
 mod points;
 mod scale;
 mod scheme;
+mod script;
 mod strip;
 
 pub use scheme::Scheme;
@@ -53,7 +57,7 @@ fn labels_end(alloc: Global, picture: &Picture<'_, '_>) -> Result<usize, AllocEr
     let mut end = 0usize;
     for bar in &picture.shapes.bars {
         if next_of(&picture.shapes.bars, bar).is_none() {
-            let label = label_of(alloc, picture.index, bar)?.len();
+            let label = short_label(alloc, picture, bar)?.len();
             end = across(bar.begin)
                 .saturating_add(label.saturating_mul(WIDE))
                 .max(end);
@@ -234,6 +238,39 @@ pub fn svg_of(
     Ok(out)
 }
 
+// Adds the pieces of a long history, each as its picture, which the script shows.
+fn put_pieces(
+    alloc: Global,
+    out: &mut Vec<u8>,
+    picture: &Picture<'_, '_>,
+) -> Result<(), AllocError> {
+    for shapes in picture.parts {
+        let piece = Picture {
+            shapes,
+            parts: &[],
+            index: picture.index,
+            records: picture.records,
+            order: picture.order,
+            said: picture.said,
+        };
+        put_piece(out, shapes)?;
+        put_svg(alloc, out, &piece, Scheme::Light)?;
+        out.extend_from_slice(b"</template>\n")?;
+    }
+    Ok(())
+}
+
+// Adds what a page has below its picture.
+fn put_tail(alloc: Global, out: &mut Vec<u8>, picture: &Picture<'_, '_>) -> Result<(), AllocError> {
+    out.extend_from_slice(MOVES)?;
+    put_extent(out, picture)?;
+    out.extend_from_slice(TAIL)?;
+    put_reasons(out, picture.said)?;
+    put_steps(alloc, out, picture)?;
+    put_pieces(alloc, out, picture)?;
+    out.extend_from_slice(SCRIPT)
+}
+
 // Adds the page around the picture, and the picture. The style of the page gives the picture its colours.
 fn put_page(
     alloc: Global,
@@ -247,7 +284,7 @@ fn put_page(
     put_colours(out, scheme)?;
     out.extend_from_slice(STYLE)?;
     put_svg(alloc, out, picture, Scheme::Light)?;
-    out.extend_from_slice(TAIL)?;
+    put_tail(alloc, out, picture)?;
     out.extend_from_slice(b"</html>\n")
 }
 

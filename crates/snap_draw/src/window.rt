@@ -1,16 +1,69 @@
 //! Which calls of a history are drawn.
 ghost use Rattle.std.specs.Prelude.{◌≡◌, IfOk};
-ghost use Rattle.snap_draw.specs.Window.{ends_before as spec_ends_before, is_among as spec_is_among, is_beside as spec_is_beside, is_near as spec_is_near, marked_calls as spec_marked_calls, marked_or_among as spec_marked_or_among, near_calls as spec_near_calls, overlap as spec_overlap, overlaps_one as spec_overlaps_one, window_of};
+ghost use Rattle.snap_draw.specs.Window.{calls_from as spec_calls_from, drawn_in, ends_before as spec_ends_before, first_around as spec_first_around, has_call as spec_has_call, is_among as spec_is_among, is_beside as spec_is_beside, is_near as spec_is_near, marked_calls as spec_marked_calls, marked_or_among as spec_marked_or_among, near_calls as spec_near_calls, overlap as spec_overlap, overlaps_one as spec_overlaps_one, usual_lines as spec_usual_lines, usual_page as spec_usual_page, window_of};
 
 use crate::drawn::Drawn;
 use crate::marks::{Mark, is_marked};
 use std::alloc::{AllocError, Global};
 
-/// The greatest number of calls that are drawn on a page or as SVG.
+/// The number of calls that are drawn on a page or as SVG if no other is asked for.
 pub const PAGE_CALLS: usize = 60;
+
+/// The greatest number of calls that can be asked for on a page or as SVG, and the most that a page holds.
+pub const MOST_CALLS: usize = 2000;
 
 /// The greatest number of calls that are drawn by lines of characters.
 pub const LINE_CALLS: usize = 12;
+
+/// Which calls are drawn of a history that has more calls than a window. Calls are counted from 0.
+#[derive(Clone, Copy, PartialEq, Eq, Debug)]
+pub enum Place {
+    /// Those of the first faults, and the first that overlap one of these. If there is no fault, the first calls.
+    Faults,
+    /// A call, and those that begin after it.
+    From(u32),
+    /// A call with those that begin before and after it.
+    Around(u32),
+}
+
+/// A part of a history: the most calls that it has, and which they are.
+#[derive(Clone, Copy, PartialEq, Eq, Debug)]
+pub struct Window {
+    pub calls: usize,
+    pub place: Place,
+}
+
+impl Window {
+    /// The window of a page or of SVG if no other is asked for.
+    pub fn usual_page() -> Window
+        ensures { result ≡ spec_usual_page }
+    {
+        Window {
+            calls: PAGE_CALLS,
+            place: Place::Faults,
+        }
+    }
+
+    /// The window of lines of characters if no other is asked for.
+    pub fn usual_lines() -> Window
+        ensures { result ≡ spec_usual_lines }
+    {
+        Window {
+            calls: LINE_CALLS,
+            place: Place::Faults,
+        }
+    }
+}
+
+/// Whether a history of `calls` calls has the call that a place names.
+pub fn has_call(place: Place, calls: u32) -> bool
+    ensures { result ≡ spec_has_call place calls }
+{
+    match place {
+        Place::Faults => true,
+        Place::From(call) | Place::Around(call) => call < calls,
+    }
+}
 
 fn is_among(calls: &[Drawn], number: u32) -> bool
     ensures { result ≡ spec_is_among calls.now number }
@@ -97,10 +150,10 @@ fn marked_or_among(
         .collect(alloc)
 }
 
-/// The calls that are drawn, of all calls of a history: all if they are not more than the limit. Otherwise those that are marked, and
-/// of the others the first that overlap one of these, up to the limit. If none is marked, the first calls.
+// All calls of a history if they are not more than the limit. Otherwise those that are marked, and of the others the first that overlap
+// one of these, up to the limit. If none is marked, the first calls.
 #[tactic(auto, unfolding(crate::specs::Window::window_of))]
-pub(crate) fn window(
+fn near_faults(
     alloc: Global,
     limit: usize,
     marks: &[Mark],
@@ -113,4 +166,49 @@ pub(crate) fn window(
     }
     let near = near_calls(alloc, limit, marks, &calls)?;
     marked_or_among(alloc, marks, &near, &calls)
+}
+
+/// The first calls from a number on, up to a count.
+pub(crate) fn calls_from(
+    alloc: Global,
+    first: usize,
+    count: usize,
+    calls: &[Drawn],
+) -> Result<Vec<Drawn>, AllocError>
+    ensures { IfOk result (λ drawn. drawn.items ≡ spec_calls_from first count calls.now) }
+{
+    calls
+        .iter()
+        .copied()
+        .filter(|drawn| first <= drawn.number as usize)
+        .take(count)
+        .collect(alloc)
+}
+
+/// The number of the first call of a window around a call, of a history of `all` calls.
+pub(crate) fn first_around(count: usize, all: usize, call: u32) -> usize
+    ensures { result ≡ spec_first_around count all call }
+{
+    (call as usize)
+        .saturating_sub(count / 2)
+        .min(all.saturating_sub(count))
+}
+
+/// The calls of a window, of all calls of a history.
+pub(crate) fn calls_in(
+    alloc: Global,
+    window: Window,
+    marks: &[Mark],
+    calls: Vec<Drawn>,
+) -> Result<Vec<Drawn>, AllocError>
+    ensures { IfOk result (λ drawn. drawn.items ≡ drawn_in window.place window.calls marks.now calls.items) }
+{
+    match window.place {
+        Place::Faults => near_faults(alloc, window.calls, marks, calls),
+        Place::From(call) => calls_from(alloc, call as usize, window.calls, &calls),
+        Place::Around(call) => {
+            let first = first_around(window.calls, calls.len(), call);
+            calls_from(alloc, first, window.calls, &calls)
+        }
+    }
 }

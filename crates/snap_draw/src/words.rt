@@ -1,4 +1,6 @@
 //! What is said of a call that is drawn.
+use crate::marks::is_marked;
+use crate::picture::Picture;
 use crate::shapes::Bar;
 use snap_index::{Call, CallOp, Index};
 use snap_report::{put_call, put_entry, put_number};
@@ -82,4 +84,35 @@ pub(crate) fn label_of(alloc: Global, index: &Index<'_>, bar: &Bar) -> Result<Ve
     label.extend_from_slice(b" ")?;
     put_operation(&mut label, index, bar)?;
     Ok(label)
+}
+
+// What an explanation says that a call does, if it has a line of this call.
+fn told_of<'a>(alloc: Global, said: &'a [u8], number: u32) -> Result<Option<&'a [u8]>, AllocError> {
+    let mut front = Vec::new(alloc);
+    put_call(&mut front, b"  call ", number)?;
+    front.extend_from_slice(b" of process ")?;
+    for line in said.split(|byte| *byte == b'\n') {
+        if line.starts_with(&front) {
+            return Ok(line.splitn(2, |byte| *byte == b':').nth(1));
+        }
+    }
+    Ok(None)
+}
+
+/// The short name of a call in a picture with room for labels. Of a wide view of a fault it has the entries that the explanation lists.
+pub(crate) fn short_label(
+    alloc: Global,
+    picture: &Picture<'_, '_>,
+    bar: &Bar,
+) -> Result<Vec<u8>, AllocError> {
+    let number = bar.drawn.number;
+    if is_marked(&picture.shapes.marks, number) {
+        if let Some(told) = told_of(alloc, picture.said, number)? {
+            let mut label = Vec::new(alloc);
+            put_call(&mut label, b"", number)?;
+            label.extend_from_slice(told)?;
+            return Ok(label);
+        }
+    }
+    label_of(alloc, picture.index, bar)
 }

@@ -1,6 +1,6 @@
 -- The parts of a field, and the first mistake in them.
-use Rattle.std.proofs.Common.{◌≡◌, ◌<◌, ◌≤◌, ◌+◌, ◌^◌, ◌==◌, ◌&&◌, ◌∙◌, ℕ, true, false, List, [], ◌∷◌, length, take, drop, Option, Some, None, sym, ap, refl, arith}
-use Rattle.std.specs.Prelude.{◌≢◌, nat_le, nat_lt, if◌then◌else◌, unwrap_or}
+use Rattle.std.proofs.Common.{◌≡◌, ◌<◌, ◌≤◌, ◌+◌, ◌^◌, ◌==◌, ◌∙◌, ℕ, true, false, List, [], ◌∷◌, length, take, drop, Some, None, sym, ap, refl, arith}
+use Rattle.std.specs.Prelude.{◌≢◌, nat_lt, unwrap_or}
 use Rattle.std.specs.List.{All}
 use Rattle.std.proofs.lemmas.Bool.Decides.{nat_tests}
 use Rattle.std.proofs.lemmas.List.Elements.{All-weaker}

@@ -9,6 +9,7 @@ use Rattle.snap_report.specs.Reports.{has_no_fault, has_no_local_fault}
 use Rattle.snap_explain.specs.declared.view.Entries.{Entries}
 use Rattle.snap_explain.specs.Calls.{call_text}
 use Rattle.snap_explain.specs.Faults.{faults_text}
+use Rattle.snap_explain.specs.FirstFaults.{first_faults_text}
 
 -- the lines of an order
 abbrev pub order_text : List ℕ → List Call → List ℕ
@@ -25,3 +26,12 @@ explanation listed records calls t = if has_no_fault t then order_text records (
 -- the text explains the history of these calls, whose events have these records
 abbrev pub IsExplanation : Entries → List ℕ → List Call → List ℕ → Type 0
 IsExplanation listed records calls text = text ≡ explanation listed records calls (tally_of calls (views_of calls))
+
+-- the order, or the verdict and the first so many faults of each kind
+unfoldable pub long_explanation : ℕ → Entries → List ℕ → List Call → Tally → List ℕ
+long_explanation most listed records calls t =
+    if has_no_fault t then order_text records (printed_order calls) else verdict_text (has_no_local_fault t) ++ first_faults_text most listed records calls
+
+-- the text explains the history of these calls by the first so many faults of each kind
+abbrev pub IsLongExplanation : ℕ → Entries → List ℕ → List Call → List ℕ → Type 0
+IsLongExplanation most listed records calls text = text ≡ long_explanation most listed records calls (tally_of calls (views_of calls))

@@ -2,6 +2,7 @@ pub mod Calls
 pub mod Views
 pub mod Mistakes
 pub mod Faults
+pub mod FirstFaults
 pub mod Explanations
 pub mod Refusals
 pub mod TestCases

@@ -1,5 +1,5 @@
 //! The explanation of a history.
-ghost use Rattle.std.specs.Prelude.{◌≡◌, ◌++◌, All, IfOk, OnOk, is_some, length, map};
+ghost use Rattle.std.specs.Prelude.{◌≡◌, ◌++◌, All, IfOk, OnOk, false, is_some, length, map};
 ghost use Rattle.std.specs.List.{flat_map};
 ghost use Rattle.std.specs.Option.{ForSome};
 ghost use Rattle.snap_core.specs.Calls.{calls_of, views_of};
@@ -8,10 +8,11 @@ ghost use Rattle.snap_theory.specs.Levels.{printed_order};
 ghost use Rattle.snap_report.specs.Orders.{HasLine, calls_numbered};
 ghost use Rattle.snap_report.specs.Reports.{has_no_fault, has_no_local_fault};
 ghost use Rattle.snap_explain.specs.Calls.{call_text};
-ghost use Rattle.snap_explain.specs.Explanations.{IsExplanation, verdict_text};
+ghost use Rattle.snap_explain.specs.Explanations.{IsExplanation, IsLongExplanation, verdict_text};
 
 use crate::call::put_call_line;
 use crate::faults::put_faults;
+use crate::first_faults::put_first_faults;
 use crate::view::Entries;
 use snap_conditions::{Tally, is_regular};
 use snap_index::Index;
@@ -79,4 +80,51 @@ pub fn explain(
         }
     }
     Ok(out)
+}
+
+// The explanation of a history that is not atomic, by the first faults of each kind.
+fn explain_first_faults(
+    alloc: Global,
+    index: &Index<'_>,
+    tally: &Tally,
+    records: &[u32],
+    listed: Entries,
+    most: u32,
+) -> Result<Vec<u8>, AllocError>
+    requires tally { tally.now ≡ tally_of (calls_of index.now) (views_of (calls_of index.now)) }
+    requires each { length records.now ≡ length index.now }
+    requires faulty { has_no_fault tally.now ≡ false }
+    ensures { IfOk result (λ text. IsLongExplanation most listed records.now (calls_of index.now) text.items) }
+{
+    if most == 1 {
+        return explain(alloc, index, tally, records, None, listed);
+    }
+    let mut out = Vec::new(alloc);
+    put_verdict(&mut out, tally)?;
+    put_first_faults(&mut out, index, records, listed, tally, most)?;
+    Ok(out)
+}
+
+/// The explanation of a history by more than one fault of a kind. Of an atomic history, and with `most` 1, it is that of `explain`.
+/// Otherwise it has a sentence for the first fault of a kind of each of the first `most` completed views that have one, and the calls
+/// concerned. The kinds come one after the other.
+pub fn explain_faults(
+    alloc: Global,
+    index: &Index<'_>,
+    tally: &Tally,
+    records: &[u32],
+    order: Option<&[u32]>,
+    listed: Entries,
+    most: u32,
+) -> Result<Vec<u8>, AllocError>
+    requires tally { tally.now ≡ tally_of (calls_of index.now) (views_of (calls_of index.now)) }
+    requires each { length records.now ≡ length index.now }
+    requires given { is_some order ≡ has_no_fault tally.now }
+    requires order { ForSome order (λ numbers. numbers.now ≡ map (λ c. c.number) (printed_order (calls_of index.now))) }
+    ensures { IfOk result (λ text. IsLongExplanation most listed records.now (calls_of index.now) text.items) }
+{
+    match order {
+        Some(_) => explain(alloc, index, tally, records, order, listed),
+        None => explain_first_faults(alloc, index, tally, records, listed, most),
+    }
 }

@@ -1,26 +1,40 @@
 //! What is said of the first fault of each kind.
-ghost use Rattle.std.specs.Prelude.{◌≡◌, ◌≤◌, ◌++◌, ℕ, List, [], OnOk, length};
+ghost use Rattle.std.specs.Prelude.{◌≡◌, ◌<◌, ◌≤◌, ◌++◌, ◌∷◌, ℕ, List, [], Option, OnOk, length};
 ghost use Rattle.std.specs.Option.{ForSome, option_map_or};
 ghost use Rattle.snap_core.specs.Calls.{Call, call_numbered, calls_of, views_of};
 ghost use Rattle.snap_core.specs.Events.{event_cap};
 ghost use Rattle.snap_conditions.specs.Tally.{tally_of};
+ghost use Rattle.snap_conditions.specs.declared.tally.Tally.{Tally};
+ghost use Rattle.snap_views.specs.Seen.{view_in};
 ghost use Rattle.snap_witness.specs.Places.{AreReadAt, IsViewAt, side_number as spec_side_number};
 ghost use Rattle.snap_explain.specs.declared.view.Entries.{Entries};
+ghost use Rattle.snap_explain.specs.FirstFaults.{integrity_first, proximity_first, read_first, write_first};
 ghost use Rattle.snap_explain.specs.Faults.{against_text, compared_text, concerned_text, disagreement_text, faults_text, integrity_text, proximity_text, read_sentence, read_text, side_text, write_sentence, write_text};
 
 use crate::call::put_updates;
 use crate::view::{Entries, put_numbers, put_view_line};
-use snap_conditions::{IntegrityFault, ProximityFault, ReadFault, Side, Tally, WriteFault};
+use snap_conditions::{
+    IntegrityFault, ProximityFault, ReadFault, Side, Tally, WriteFault, tally_range,
+    tally_without_read,
+};
 use snap_index::Index;
 use snap_report::{put_call, put_entry, put_number, put_update};
 use snap_witness::{least_exceeding, read_updates, side_number, view_numbered};
 use std::alloc::AllocError;
 
 // A fault that is explained, if its views are completed views of the history.
-trait Explained: Copy {
+pub(crate) trait Explained: Copy {
     ghost text: { Entries → List ℕ → List Call → Self → List ℕ };
 
     ghost is_named: { List Call → Self → Type 0 };
+
+    ghost first: { Tally → Option Self };
+
+    // The first fault of the kind of the completed view at a place, if it has one.
+    fn first_at(index: &Index<'_>, place: u32) -> Option<Self>
+        requires { place < length (views_of (calls_of index.now)) }
+        ensures first { result ≡ first (tally_of (calls_of index.now) (view_in (calls_of index.now) place ∷ [])) }
+        ensures named { ForSome result (is_named (calls_of index.now)) };
 
     // Adds its sentence and the lines of its calls.
     fn put(
@@ -57,6 +71,16 @@ impl Explained for IntegrityFault {
 
     ghost is_named = { λ calls f. IsViewAt calls f.view };
 
+    ghost first = { integrity_first };
+
+    fn first_at(index: &Index<'_>, place: u32) -> Option<IntegrityFault> {
+        // what is known of the history that the index is of
+        let _events = index.event_count();
+        tally_without_read(index, place, place + 1)
+            .integrity
+            .first()
+    }
+
     fn put(
         &self,
         out: &mut Vec<u8>,
@@ -92,6 +116,16 @@ impl Explained for ProximityFault {
     ghost text = { proximity_text };
 
     ghost is_named = { λ calls f. IsViewAt calls f.view × (f.number ≤ event_cap) };
+
+    ghost first = { proximity_first };
+
+    fn first_at(index: &Index<'_>, place: u32) -> Option<ProximityFault> {
+        // what is known of the history that the index is of
+        let _events = index.event_count();
+        tally_without_read(index, place, place + 1)
+            .proximity
+            .first()
+    }
 
     fn put(
         &self,
@@ -190,6 +224,14 @@ impl Explained for ReadFault {
 
     ghost is_named = { AreReadAt };
 
+    ghost first = { read_first };
+
+    fn first_at(index: &Index<'_>, place: u32) -> Option<ReadFault> {
+        // what is known of the history that the index is of
+        let _events = index.event_count();
+        tally_range(index, place, place + 1).read.first()
+    }
+
     fn put(
         &self,
         out: &mut Vec<u8>,
@@ -226,6 +268,14 @@ impl Explained for WriteFault {
     ghost text = { write_text };
 
     ghost is_named = { λ calls f. IsViewAt calls f.view };
+
+    ghost first = { write_first };
+
+    fn first_at(index: &Index<'_>, place: u32) -> Option<WriteFault> {
+        // what is known of the history that the index is of
+        let _events = index.event_count();
+        tally_without_read(index, place, place + 1).write.first()
+    }
 
     fn put(
         &self,

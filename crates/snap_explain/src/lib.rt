@@ -5,13 +5,14 @@
 mod call;
 mod explanation;
 mod faults;
+mod first_faults;
 mod mistake;
 mod refusal;
 mod test_case;
 mod view;
 mod xml;
 
-pub use explanation::explain;
+pub use explanation::{explain, explain_faults};
 pub use refusal::explain_refusal;
 pub use test_case::{Ending, ended_case, passed_case};
 pub use view::Entries;

@@ -1,5 +1,5 @@
 -- What is answered of whole texts.
-use Rattle.std.proofs.Common.{◌≡◌, ◌≢◌, ◌⊎◌, ◌<◌, ◌++◌, ◌∷◌, ◌∙◌, ap, append_assoc, ℕ, Bool, true, false, List, [], Option, Some, None, Result, Ok, Err, flat_map, subst, sym, refl, inl, inr}
+use Rattle.std.proofs.Common.{◌≡◌, ◌≢◌, ◌⊎◌, ◌<◌, ◌++◌, ◌∙◌, ap, append_assoc, append-nil, length, ℕ, Bool, List, [], Option, Some, None, Result, Ok, Err, flat_map, subst, sym, refl, inl, inr}
 use Rattle.std.specs.Prelude.{IfOk, IfSome, IsTrue, ◌↔◌}
 use Rattle.snap_core.specs.declared.event.Event.{Event}
 use Rattle.snap_format.specs.Rows.{rows_of}
@@ -13,21 +13,37 @@ use Rattle.snap_follow.specs.declared.pieces.Stop.TheVariants.{Refused}
 use Rattle.snap_follow.specs.declared.run.FollowOptions.{FollowOptions}
 use Rattle.snap_follow.specs.declared.run.Followed.{Followed}
 use Rattle.snap_follow.specs.declared.run.Until.{Until}
-use Rattle.snap_follow.specs.Followed.{HasRead, IsStatusOf, SaysSoFar, Spells}
+use Rattle.snap_follow.specs.declared.form.Form.{Form}
+use Rattle.snap_follow.specs.declared.form.Form.TheVariants.{Plain, Stamped}
+use Rattle.snap_follow.specs.declared.span.Place.{Place}
+use Rattle.snap_follow.specs.declared.waiting.Turn.{Turn}
+use Rattle.snap_follow.specs.Followed.{AreWaiting, HasRead, IsStatusOf, SaysSoFar}
+use Rattle.snap_follow.specs.Turns.{AreInTurn, RiseFrom, Spells, stamps_of}
 use Rattle.snap_follow.specs.Recordings.{AllSay, AreFollowed, AreWritten, CanBeFollowed, IsCodeOf, IsRecording}
-use Rattle.snap_follow.specs.Windows.{Told, sums_text}
+use Rattle.snap_follow.specs.Windows.{AreWindowsOf, Told, sums_text}
 use Rattle.snap_follow.specs.inside.Courses.{HasJudged}
 use Rattle.snap_follow.specs.inside.Runs.{IsDone, OnRefusal}
 use Rattle.snap_follow.specs.inside.Stops.{TellsRest}
 use Rattle.snap_follow.specs.inside.Sums.{AreSums, HasToldAll}
 
--- what was read says the events
-says_all : (f : Follow) {least most : ℕ} {earlier : List (List (List ℕ))} {last : List (List ℕ)} {events : List Event} → HasRead f least most earlier last events → (earlier ≢ []) ⊎ (flat_map rows_of last ≢ []) → AllSay earlier last events
-says_all f {least} {most} {earlier} {last} {events} h begun = record { before = h.earlier; here = h.here; parts = h.parts; texts_say = h.texts_say; last_says = go h.lines_say begun }
+-- what was read says the events, if nothing waits
+in_turn : (form : Form) (f : Follow) (taken : List Turn) → f.waiting.turns.items ≡ [] → AreWaiting form f taken → AreInTurn form taken
+in_turn Plain f taken none waits = tt
+in_turn Stamped f taken none waits = subst (λ z. RiseFrom 0 (stamps_of z)) (ap (λ z. taken ++ z) none ∙ append-nil taken) waits.0
+
+says_all : (f : Follow) {least most : ℕ} {earlier : List (List (List ℕ))} {last : List (List ℕ)} {events : List Event} → (h : HasRead f least most earlier last events) → f.waiting.turns.items ≡ [] → (earlier ≢ []) ⊎ (flat_map rows_of last ≢ []) → AllSay h.form earlier last (h.earlier ++ h.here)
+says_all f {least} {most} {earlier} {last} {events} h nothing begun = record {
+  before = h.earlier;
+  here = h.here;
+  parts = refl;
+  texts_say = h.texts_say;
+  last_says = go (subst (SaysSoFar f h.form (length earlier) last) (ap (λ z. h.here ++ z) nothing ∙ append-nil h.here) h.lines_say) begun;
+  in_turn = in_turn h.form f (h.earlier ++ h.here) nothing h.waiting;
+}
   where
-    go : SaysSoFar f last h.here → (earlier ≢ []) ⊎ (flat_map rows_of last ≢ []) → Spells (flat_map rows_of last) h.here ⊎ ((earlier ≢ []) × (flat_map rows_of last ≡ []) × (h.here ≡ []))
-    go (inl (unheaded, none, nothing)) (inl some) = inr (some, none, nothing)
-    go (inl (unheaded, none, nothing)) (inr some) = absurd (some none)
+    go : SaysSoFar f h.form (length earlier) last h.here → (earlier ≢ []) ⊎ (flat_map rows_of last ≢ []) → Spells h.form (length earlier) (flat_map rows_of last) h.here ⊎ ((earlier ≢ []) × (flat_map rows_of last ≡ []) × (h.here ≡ []))
+    go (inl (unheaded, none, empty)) (inl some) = inr (some, none, empty)
+    go (inl (unheaded, none, empty)) (inr some) = absurd (some none)
     go (inr (headed, spells)) some = inl spells
 
 -- what is so of a value is so of an answer that is that value
@@ -40,7 +56,17 @@ abbrev pub IsStatusBy : Course → ℕ → Type 0
 IsStatusBy course code = (least most : ℕ) (texts : List (List (List ℕ))) (lines : List (List ℕ)) (events : List Event) → HasRead course.follow least most texts lines events → IsStatusOf events code
 
 recording_of : (course : Course) (until : Until) (gone : List ℕ) (least most : ℕ) (all : List (List ℕ)) (has_rest : Bool) → (done : IsDone course until gone least most all) → (IsTrue has_rest ↔ (course.rest.items ≢ [])) → IsRecording until all has_rest done.events
-recording_of course until gone least most all has_rest done rest = record { earlier = done.earlier; last = done.last; rest = course.rest.items; cut = done.cut; say = says_all course.follow done.judged.read done.begun; left_out = rest }
+recording_of course until gone least most all has_rest done rest = record {
+  earlier = done.earlier;
+  last = done.last;
+  rest = course.rest.items;
+  cut = done.cut;
+  form = done.judged.read.form;
+  turns = done.judged.read.earlier ++ done.judged.read.here;
+  say = says_all course.follow done.judged.read done.none_waits done.begun;
+  said = done.judged.read.said;
+  left_out = rest;
+}
 
 code_by : (asked : FollowOptions) (course : Course) (gone : List ℕ) (all : List (List ℕ)) (has_rest : Bool) (code : Option ℕ) → IsDone course asked.until gone asked.least asked.most.events all → (IsTrue has_rest ↔ (course.rest.items ≢ [])) → IfSome code (IsStatusBy course) → IfSome code (IsCodeOf asked all has_rest)
 code_by asked course gone all has_rest None done rest status = tt
@@ -63,18 +89,19 @@ whole_answer asked left course gone (Err e) done rest status = tt
 
 -- the lines of all windows were written, and the sums
 abbrev pub TellsAfter : Course → ℕ → Option ℕ → Option (List ℕ) → Option (List ℕ) → Type 0
-TellsAfter course views code old new = (gone : List ℕ) (least most : ℕ) (texts : List (List (List ℕ))) (lines : List (List ℕ)) (events : List Event) → HasJudged course.follow course.answers gone least most texts lines events → TellsRest old new gone least (texts ++ lines ∷ []) events views code
+TellsAfter course views code old new = (gone : List ℕ) (least most : ℕ) (texts : List (List (List ℕ))) (lines : List (List ℕ)) (events : List Event) (h : HasJudged course.follow course.answers gone least most texts lines events) → TellsRest old new gone least h.read.places events views code
 
 written_by : (asked : FollowOptions) (left : Option (List (List ℕ))) (course : Course) (gone : List ℕ) (followed : Followed) (old mid new : Option (List ℕ)) → Appends old mid gone → IfSome left (IsDone course asked.until gone asked.least asked.most.events) →
     (IsTrue followed.has_rest ↔ (course.rest.items ≢ [])) → TellsAfter course asked.views followed.code mid new → IfSome left (λ all. AreWritten asked all followed old new)
+unfolding recording_of
 written_by asked None course gone followed old mid new sent done rest tells = tt
 written_by asked (Some all) course gone followed old mid new sent done rest tells = λ _.
     let last = tells gone asked.least asked.most.events done.earlier done.last done.events done.judged in
     inl (record {
       events = done.events;
-      recording = record { earlier = done.earlier; last = done.last; rest = course.rest.items; cut = done.cut; say = says_all course.follow done.judged.read done.begun; left_out = rest };
+      recording = recording_of course asked.until gone asked.least asked.most.events all followed.has_rest done rest;
       told = last.told;
-      windows = last.windows;
+      windows = subst (λ z. AreWindowsOf asked.least z done.events last.told) done.judged.read.places_are last.windows;
       wrote = subst (Appends old new) last.all (Appends-trans old mid new gone last.out sent last.sent);
       few = last.few;
     })
@@ -109,9 +136,9 @@ unwritten_answer asked left stop (Ok followed) old new stops is = unwritten_by a
 unwritten_answer asked left stop (Err e) old new stops is = tt
 
 -- what was to be written, and the sums
-pub rest_told : (answers : Answers) (old new : Option (List ℕ)) (gone : List ℕ) (least : ℕ) (texts : List (List (List ℕ))) (events : List Event) (views : ℕ) (code : Option ℕ) → HasToldAll answers gone least texts events →
-    ((told : List Told) → AreSums told answers.sums → Appends old new (answers.lines ++ sums_text told)) → (code ≡ None ↔ answers.sums.views < views) → TellsRest old new gone least texts events views code
-rest_told answers old new gone least texts events views code h wrote few = record {
+pub rest_told : (answers : Answers) (old new : Option (List ℕ)) (gone : List ℕ) (least : ℕ) (places : List Place) (events : List Event) (views : ℕ) (code : Option ℕ) → HasToldAll answers gone least places events →
+    ((told : List Told) → AreSums told answers.sums → Appends old new (answers.lines ++ sums_text told)) → (code ≡ None ↔ answers.sums.views < views) → TellsRest old new gone least places events views code
+rest_told answers old new gone least places events views code h wrote few = record {
   told = h.told;
   windows = h.windows;
   out = answers.lines ++ sums_text h.told;

@@ -8,10 +8,12 @@ pub mod Placing
 pub mod Unquoting
 pub mod Reading
 pub mod Refusing
+pub mod Rising
 pub mod Running
 pub mod Saying
 pub mod Sending
 pub mod Statuses
+pub mod Steps
 pub mod Stopping
 pub mod Summing
 pub mod Taking

@@ -5,12 +5,13 @@ use Rattle.std.specs.List.{AllZip}
 use Rattle.std.proofs.lemmas.Bool.{false≢true}
 use Rattle.std.specs.Io.KnownBytes.{Consumes, IsAtEnd}
 use Rattle.snap_core.specs.declared.event.Event.{Event}
-use Rattle.snap_core.specs.Counting.{failures_in, inner_of}
+use Rattle.snap_core.specs.Counting.{inner_of}
 use Rattle.snap_core.specs.declared.counted.Counted.{Counted}
 use Rattle.std.proofs.KnownBytes.{Appends-trans}
 use Rattle.snap_follow.specs.declared.answers.Answers.{Answers}
 use Rattle.snap_follow.specs.declared.course.Course.{Course}
 use Rattle.snap_follow.specs.declared.follow.Follow.{Follow}
+use Rattle.snap_follow.specs.declared.span.Place.{Place}
 use Rattle.snap_follow.specs.declared.pieces.AtHand.{AtHand}
 use Rattle.snap_follow.specs.declared.run.Until.{Until}
 use Rattle.snap_follow.specs.declared.run.Until.TheVariants.{Ever, Idle, End}
@@ -20,11 +21,11 @@ use Rattle.snap_follow.specs.Windows.{Told}
 use Rattle.snap_follow.specs.Written.{HasSent}
 use Rattle.snap_follow.specs.Recordings.{AreLastLines}
 use Rattle.snap_follow.specs.Texts.{Comes}
-use Rattle.snap_follow.specs.inside.Courses.{EndsBytes, HasFollowed, HasJudged, HasNoneSoFar, IsBegun, TakesBytes, TakesBytesFor, TakesLast}
-use Rattle.snap_follow.specs.inside.Runs.{EndsAll, EndsAtHand, EndsLast, GoesOnFor, GoesOnFrom, HasBegun, HasCome, HasNoneAtAll, IsDone, IsReadOut, IsTellingFrom, IsUnderWay, ReadsText, StopsInRest}
+use Rattle.snap_follow.specs.inside.Courses.{EndsBytes, HasFollowed, HasJudged, HasNoneSoFar, HasWaiting, IsBegun, TakesBytes, TakesBytesFor, TakesLast, TakesMore}
+use Rattle.snap_follow.specs.inside.Runs.{EndsAll, EndsAtHand, EndsLast, GoesOnFor, GoesOnFrom, HasBegun, HasCome, HasNoneAtAll, HasStampsAtEnd, IsDone, IsReadOut, IsTellingFrom, IsUnderWay, ReadsText, StopsInRest}
 use Rattle.snap_follow.specs.inside.Sums.{AreSums, HasAnswered, HasTold, WritesLines}
 use Rattle.snap_follow.proofs.Sending.{both_whole, nothing_sent}
-use Rattle.snap_follow.proofs.Taking.{judged_as}
+use Rattle.snap_follow.proofs.Taking.{judged_as, waits_stamped}
 
 -- the same lines are still to be written, after the same sums
 abbrev pub IsSameAnswer : Answers → Answers → Type 0
@@ -37,12 +38,12 @@ answered_still a b gone told same h = record {
 }
 
 -- what was told with some answers is told with others that have the same
-told_by : (a b : Answers) (gone all : List ℕ) (least : ℕ) (texts : List (List (List ℕ))) (before : List Event) → ((told : List Told) → HasAnswered a gone told → HasAnswered b all told) → HasTold a gone least texts before → HasTold b all least texts before
-told_by a b gone all least texts before f h = record { told = h.told; answered = f h.told h.answered; all = h.all; each = h.each; ended = h.ended }
+told_by : (a b : Answers) (gone all : List ℕ) (least : ℕ) (places : List Place) (before : List Event) → ((told : List Told) → HasAnswered a gone told → HasAnswered b all told) → HasTold a gone least places before → HasTold b all least places before
+told_by a b gone all least places before f h = record { told = h.told; answered = f h.told h.answered; all = h.all; each = h.each; ended = h.ended }
 
 judged_by : (f : Follow) (a b : Answers) (gone all : List ℕ) {least most : ℕ} {texts : List (List (List ℕ))} {lines : List (List ℕ)} {events : List Event} → ((told : List Told) → HasAnswered a gone told → HasAnswered b all told) →
     HasJudged f a gone least most texts lines events → HasJudged f b all least most texts lines events
-judged_by f a b gone all {least} {most} {texts} {lines} {events} keeps h = record { read = h.read; in_time = h.in_time; first = h.first; told = told_by a b gone all least (texts ++ lines ∷ []) h.read.before keeps h.told }
+judged_by f a b gone all {least} {most} {texts} {lines} {events} keeps h = record { read = h.read; in_time = h.in_time; first = h.first; told = told_by a b gone all least h.read.places h.read.before keeps h.told }
 
 judged_still : (f : Follow) (a b : Answers) {gone : List ℕ} {least most : ℕ} {texts : List (List (List ℕ))} {lines : List (List ℕ)} {events : List Event} → IsSameAnswer a b → HasJudged f a gone least most texts lines events → HasJudged f b gone least most texts lines events
 judged_still f a b {gone} {least} {most} {texts} {lines} {events} same h = judged_by f a b gone gone (λ told. answered_still a b gone told same) h
@@ -244,7 +245,8 @@ done_by remaining c d (Some t) until later gone least most all none out some end
       };
       events = begun.events ++ last.1;
       judged = last.3;
-      begun = last.4;
+      none_waits = last.4;
+      begun = last.5;
     }
 
 pub all_done : {R : Type 0} (remaining : R → Option (List ℕ)) (c d : Course) (hand : AtHand R) (left : Option (List (List ℕ))) (until : Until) (gone : List ℕ) (least most : ℕ) (all : List (List ℕ)) →
@@ -270,14 +272,31 @@ pub last_as_it_is : (until : Until) (c : Course) → (until ≡ Ever) ⊎ ((seco
 last_as_it_is until c is gone least most texts bytes events h =
     (h.lines, [], cut_so_far until bytes h.lines c.rest.items is h.cut, subst (HasJudged c.follow c.answers gone least most texts h.lines) (sym (append-nil events)) h.read)
 
+-- then events that waited were taken
+pub ends_more : (until : Until) (c d e : Course) → EndsLast until c d → TakesMore d e → e.rest ≡ d.rest → EndsLast until c e
+ends_more until c d e ends more rest gone least most texts bytes events h =
+    let last = ends gone least most texts bytes events h in
+    let next = more gone least most texts last.0 (events ++ last.1) last.3 in (
+      last.0,
+      last.1 ++ next.0,
+      subst (λ r. AreLastLines until bytes last.0 r.items) (sym rest) last.2,
+      subst (λ z. HasJudged e.follow e.answers gone least most texts z (events ++ (last.1 ++ next.0))) (append-nil last.0) (subst (HasJudged e.follow e.answers gone least most texts (last.0 ++ [])) (append_assoc events last.1 next.0) next.1),
+    )
+
+pub stamps_at_end : (until : Until) (c d : Course) → EndsLast until c d → HasWaiting d.follow → HasStampsAtEnd until c
+stamps_at_end until c d ends some gone least most texts bytes events h =
+    let last = ends gone least most texts bytes events h in
+    (last.0, d.rest.items, last.2, waits_stamped d.follow least most texts last.0 (events ++ last.1) last.3.read some)
+
 -- and there was a record
-pub all_ended : (until : Until) (c d e : Course) → EndsLast until c d → e.rest ≡ d.rest → e.follow ≡ d.follow → e.answers ≡ d.answers → IsBegun d.follow → EndsAll until c e
-all_ended until c d e ends rest follow same begun gone least most texts bytes events h =
+pub all_ended : (until : Until) (c d e : Course) → EndsLast until c d → d.follow.waiting.turns.items ≡ [] → e.rest ≡ d.rest → e.follow ≡ d.follow → e.answers ≡ d.answers → IsBegun d.follow → EndsAll until c e
+all_ended until c d e ends nothing rest follow same begun gone least most texts bytes events h =
     let last = ends gone least most texts bytes events h in (
       last.0,
       last.1,
       subst (λ r. AreLastLines until bytes last.0 r.items) (sym rest) last.2,
       judged_as d.follow e.follow d.answers e.answers follow same last.3,
+      ap (λ z. z.waiting.turns.items) follow ∙ nothing,
       begun least most texts last.0 (events ++ last.1) last.3.read,
     )
 

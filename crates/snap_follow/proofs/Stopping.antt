@@ -11,12 +11,14 @@ use Rattle.snap_follow.specs.declared.course.Course.{Course}
 use Rattle.snap_follow.specs.declared.run.Until.{Until}
 use Rattle.snap_follow.specs.declared.run.Until.TheVariants.{Ever, Idle, End}
 use Rattle.snap_follow.specs.Bytes.{AreAllLines, AreLinesOf, EndsLine, HasNoEnd}
-use Rattle.snap_follow.specs.Followed.{AllSpell, Spells, StopsAt}
+use Rattle.snap_follow.specs.declared.form.Form.TheVariants.{Plain}
+use Rattle.snap_follow.specs.Followed.{AllSpell, StopsAt}
+use Rattle.snap_follow.specs.Turns.{Spells, events_of}
 use Rattle.snap_follow.specs.Recordings.{AreLastLines, CanBeFollowed, IsShort}
-use Rattle.snap_follow.specs.inside.Courses.{BeginsWithEnd, HasFollowed, IsTooLong, StopsIn, StopsLast}
+use Rattle.snap_follow.specs.inside.Courses.{BeginsWithEnd, HasFollowed, HaveStamps, IsTooLong, StopsIn, StopsLast}
 use Rattle.snap_follow.specs.inside.Runs.{HasBegun, StopsEnd, StopsInRest}
 use Rattle.snap_follow.proofs.Cutting.{begin_short, cut_behind, first, first_line, one_cut, one_whole, others, row_of_line}
-use Rattle.snap_follow.proofs.Saying.{IsAmong, all_before, does_not_stop}
+use Rattle.snap_follow.proofs.Saying.{IsAmong, all_before, does_not_stop, not_stamped}
 use Rattle.snap_follow.proofs.Unquoting.{no_rows}
 
 -- of all elements, one, and those after some
@@ -73,7 +75,7 @@ has_lines most until done lines text later all parts whole can = go (where_is do
   where
     go : IsWhere text later lines can.cut.text can.earlier → HasLines most until lines text later
     go (inl (none, is, same)) =
-        let parted : can.events ≡ can.say.before ++ (can.say.here ++ []) = can.say.parts ∙ ap (λ z. can.say.before ++ z) (sym (append-nil can.say.here)) in
+        let parted : can.turns ≡ can.say.before ++ (can.say.here ++ []) = can.say.parts ∙ ap (λ z. can.say.before ++ z) (sym (append-nil can.say.here)) in
         record {
           lines = can.last;
           rest = can.rest;
@@ -82,22 +84,22 @@ has_lines most until done lines text later all parts whole can = go (where_is do
             before = can.say.before;
             here = can.say.here;
             behind = [];
-            history = subst IsHistory parted can.history;
+            history = subst (λ z. IsHistory (events_of z)) parted can.history;
             few = subst (λ z. length z ≤ most) parted can.few;
-            texts_say = subst (λ z. AllSpell z can.say.before) same can.say.texts_say;
+            texts_say = subst (λ z. AllSpell Plain 0 z can.say.before) same can.say.texts_say;
             lines_say = last_say none same can.say.last_says;
           };
           short = can.short;
           short_rest = can.short_rest;
         }
       where
-        last_say : later ≡ [] → can.earlier ≡ lines → Spells (flat_map rows_of can.last) can.say.here ⊎ ((can.earlier ≢ []) × (flat_map rows_of can.last ≡ []) × (can.say.here ≡ [])) →
-            Spells (flat_map rows_of can.last) can.say.here ⊎ ((lines ≢ []) × (flat_map rows_of can.last ≡ []) × (can.say.here ≡ []) × (later ≡ []))
-        last_say last same (inl spells) = inl spells
+        last_say : later ≡ [] → can.earlier ≡ lines → Spells Plain (length can.earlier) (flat_map rows_of can.last) can.say.here ⊎ ((can.earlier ≢ []) × (flat_map rows_of can.last ≡ []) × (can.say.here ≡ [])) →
+            Spells Plain (length lines) (flat_map rows_of can.last) can.say.here ⊎ ((lines ≢ []) × (flat_map rows_of can.last ≡ []) × (can.say.here ≡ []) × (later ≡ []))
+        last_say last same (inl spells) = inl (subst (λ z. Spells Plain (length z) (flat_map rows_of can.last) can.say.here) same spells)
         last_say last same (inr (some, rows, nothing)) = inr ((λ e. some (same ∙ e)), rows, nothing, last)
     go (inr (here, more, some, same, cut)) =
-        let all_say = all_before lines here more can.say.before (subst (λ z. AllSpell z can.say.before) same can.say.texts_say) in
-        let parted : can.events ≡ all_say.0 ++ (all_say.1 ++ (all_say.2 ++ can.say.here)) =
+        let all_say = all_before Plain 0 (length lines) lines here more can.say.before (omega arith) (subst (λ z. AllSpell Plain 0 z can.say.before) same can.say.texts_say) in
+        let parted : can.turns ≡ all_say.0 ++ (all_say.1 ++ (all_say.2 ++ can.say.here)) =
         can.say.parts ∙ ap (λ z. z ++ can.say.here) all_say.3 ∙ append_assoc all_say.0 (all_say.1 ++ all_say.2) can.say.here ∙ ap (λ z. all_say.0 ++ z) (append_assoc all_say.1 all_say.2 can.say.here) in
         record {
           lines = here;
@@ -107,7 +109,7 @@ has_lines most until done lines text later all parts whole can = go (where_is do
             before = all_say.0;
             here = all_say.1;
             behind = all_say.2 ++ can.say.here;
-            history = subst IsHistory parted can.history;
+            history = subst (λ z. IsHistory (events_of z)) parted can.history;
             few = subst (λ z. length z ≤ most) parted can.few;
             texts_say = all_say.4;
             lines_say = inl all_say.5;
@@ -236,7 +238,7 @@ last_in c gone least most earlier text lines events IsLast h whole among stops =
 no_record_in : (most : ℕ) (earlier : List (List (List ℕ))) (lines : List (List ℕ)) (IsLast : Type 0) → IsAmong most earlier lines IsLast → flat_map rows_of lines ≡ [] → (earlier ≢ []) × IsLast
 no_record_in most earlier lines IsLast among none = go among.lines_say
   where
-    go : Spells (flat_map rows_of lines) among.here ⊎ ((earlier ≢ []) × (flat_map rows_of lines ≡ []) × (among.here ≡ []) × IsLast) → (earlier ≢ []) × IsLast
+    go : Spells Plain (length earlier) (flat_map rows_of lines) among.here ⊎ ((earlier ≢ []) × (flat_map rows_of lines ≡ []) × (among.here ≡ []) × IsLast) → (earlier ≢ []) × IsLast
     go (inl spells) = absurd (some_ahead [] spells.head spells.later (sym spells.whole ∙ none))
     go (inr (some, rows, nothing, last)) = (some, last)
 
@@ -253,7 +255,11 @@ end_stops c rest later gone least most until all none some stops h can = go a.cu
     go : ((later ≢ []) × AreAllLines (h.bytes ++ rest) a.lines) ⊎ ((later ≡ []) × AreLastLines until (h.bytes ++ rest) a.lines a.rest) → StopsLast c → ⊥
     go (inr (last, cut)) stops = some last
     go (inl (more, whole)) (inl at) = last_in c gone least most h.lines h.bytes a.lines h.events (later ≡ []) h.followed (subst (λ z. AreAllLines z a.lines) (text_whole h.bytes rest none) whole) a.among at
-    go (inl (more, whole)) (inr nothing) =
+    go (inl (more, whole)) (inr (inr stamps)) =
+        let found = stamps gone least most h.lines h.bytes h.events h.followed in
+        not_stamped most h.lines a.lines (later ≡ []) a.among
+        (subst (HaveStamps (length h.lines)) (one_whole h.bytes found.0 a.lines found.1 (subst (λ z. AreAllLines z a.lines) (text_whole h.bytes rest none) whole)) found.2)
+    go (inl (more, whole)) (inr (inl nothing)) =
         let empty = nothing gone least most h.lines h.bytes h.events h.followed in
         some (no_record_in most h.lines a.lines (later ≡ []) a.among
         (ap (flat_map rows_of) (one_whole h.bytes a.lines empty.0 (subst (λ z. AreAllLines z a.lines) (text_whole h.bytes rest none) whole) empty.1) ∙ empty.2)).1
@@ -279,7 +285,11 @@ last_stops c rest later gone least most until all none last stops h can = go a.c
     go : ((later ≢ []) × AreAllLines (h.bytes ++ rest) a.lines) ⊎ ((later ≡ []) × AreLastLines until (h.bytes ++ rest) a.lines a.rest) → StopsEnd until c → ⊥
     go (inl (some, whole)) stops = some last
     go (inr (is, cut)) (inl at) = rest_in until c gone least most h.lines h.bytes a.lines a.rest h.events (later ≡ []) h.followed (subst (λ z. AreLastLines until z a.lines a.rest) (text_whole h.bytes rest none) cut) a.among at
-    go (inr (is, cut)) (inr nothing) =
+    go (inr (is, cut)) (inr (inr stamps)) =
+        let found = stamps gone least most h.lines h.bytes h.events h.followed in
+        not_stamped most h.lines a.lines (later ≡ []) a.among
+        (subst (HaveStamps (length h.lines)) (one_last until h.bytes found.1 a.rest found.0 a.lines found.2 (subst (λ z. AreLastLines until z a.lines a.rest) (text_whole h.bytes rest none) cut)) found.3)
+    go (inr (is, cut)) (inr (inl nothing)) =
         let empty = nothing gone least most h.lines h.bytes h.events h.followed in
         (no_record_in most h.lines a.lines (later ≡ []) a.among
         (ap (flat_map rows_of) (one_last until h.bytes a.rest empty.1 a.lines empty.0 (subst (λ z. AreLastLines until z a.lines a.rest) (text_whole h.bytes rest none) cut) empty.2) ∙ empty.3)).0 empty.4

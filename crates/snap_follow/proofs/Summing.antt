@@ -1,14 +1,13 @@
 -- One window more is counted.
-use Rattle.std.proofs.Common.{◌≡◌, ◌==◌, ◌<◌, ◌+◌, ◌-◌, ◌^◌, ◌++◌, ◌∷◌, [], ◌∙◌, min, ℕ, Bool, true, false, cond, List, Option, Some, None, length, length-append, flat_map, refl, sym, ap, append_assoc, append-nil, subst, arith}
+use Rattle.std.proofs.Common.{◌≡◌, ◌+◌, ◌-◌, ◌^◌, ◌++◌, ◌∷◌, [], ◌∙◌, min, ℕ, true, false, cond, List, Option, Some, None, length, flat_map, refl, sym, ap, append_assoc, append-nil, arith}
 use Rattle.std.specs.Prelude.{count_by, find, sum_by}
 use Rattle.std.specs.Option.{option_or}
 use Rattle.std.proofs.lemmas.List.Folds.{find-append}
 use Rattle.std.proofs.lemmas.List.Sums.{sum_by_push}
 use Rattle.std.proofs.lemmas.List.Concat.{flat_map-append}
-use Rattle.snap_core.specs.declared.event.Event.{Event}
-use Rattle.snap_follow.specs.Spans.{IsSpanOf, ends_view, stop}
-use Rattle.snap_follow.specs.Windows.{Told, has_code, line_of, verdict_code}
-use Rattle.snap_follow.specs.inside.Sums.{AreCounts, AreSums, IsFirst}
+use Rattle.snap_follow.specs.Spans.{ends_view}
+use Rattle.snap_follow.specs.Windows.{Told, has_code, line_of}
+use Rattle.snap_follow.specs.inside.Sums.{IsFirst}
 
 -- one that has the status of a kind
 

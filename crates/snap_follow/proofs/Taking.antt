@@ -12,12 +12,15 @@ use Rattle.snap_follow.specs.declared.answers.Answers.{Answers}
 use Rattle.snap_follow.specs.declared.course.Course.{Course}
 use Rattle.snap_follow.specs.Bytes.{AreLinesOf, Ended, EndsLine, HasNoEnd}
 use Rattle.snap_follow.specs.declared.follow.Follow.{Follow}
-use Rattle.snap_follow.specs.Followed.{EndsText, HasNoRecord, HasRead, StopsAt}
+use Rattle.snap_follow.specs.declared.form.Form.{Form}
+use Rattle.snap_follow.specs.declared.form.Form.TheVariants.{Plain, Stamped}
+use Rattle.snap_follow.specs.declared.waiting.Turn.{Turn}
+use Rattle.snap_follow.specs.Followed.{AreWaiting, EndsText, HasNoRecord, HasRead, SaysSoFar, StopsAt}
 use Rattle.snap_follow.specs.Windows.{EndsFirst}
-use Rattle.snap_follow.specs.inside.Courses.{BeginsWithEnd, EndsBytes, HasFollowed, HasJudged, HasNothing, IsTooLong, StopsIn, TakesBytes, TakesLast, TakesLine}
+use Rattle.snap_follow.specs.inside.Courses.{BeginsWithEnd, EndsBytes, HasFollowed, HasJudged, HasNothing, HasStamps, HasWaiting, HaveStamps, IsTooLong, StopsIn, TakesBytes, TakesLast, TakesLine, TakesMore}
 use Rattle.snap_follow.specs.inside.Sums.{HasAnswered, HasTold}
-use Rattle.snap_follow.proofs.Placing.{place_behind}
-use Rattle.snap_follow.proofs.Telling.{none_first, none_told, told_grown}
+use Rattle.snap_follow.proofs.Steps.{both_none}
+use Rattle.snap_follow.proofs.Telling.{none_first, none_told}
 
 -- nothing
 pub takes_nothing : (c : Course) → TakesBytes c c []
@@ -161,11 +164,42 @@ no_record c d last none gone least most texts bytes events h =
 no_lines : (c : Course) → c.rest.items ≡ [] → AreLinesOf [] [] c.rest.items
 no_lines c none = subst (AreLinesOf [] []) (sym none) (record { each = []; lines_are = refl; spelled = refl; unended = λ k d l. absurd (omega (arith, l)) })
 
--- a text has ended, and the next one begins
-pub text_done : (c d e : Course) → TakesLast c d → EndsText d.follow e.follow → e.rest.items ≡ [] → e.answers ≡ d.answers → EndsBytes c e
-text_done c d e last ends none kept gone least most texts bytes events h =
+-- events that wait, and then others
+pub more_nothing : (c : Course) → TakesMore c c
+more_nothing c gone least most texts lines events h = ([], subst (λ z. HasJudged c.follow c.answers gone least most texts z (events ++ [])) (sym (append-nil lines)) (subst (HasJudged c.follow c.answers gone least most texts lines) (sym (append-nil events)) h))
+
+pub more_both : (a b c : Course) → TakesMore a b → TakesMore b c → TakesMore a c
+more_both a b c first second gone least most texts lines events h =
+    let one = first gone least most texts lines events h in
+    let two = second gone least most texts (lines ++ []) (events ++ one.0) one.1 in
+    (one.0 ++ two.0, subst (λ z. HasJudged c.follow c.answers gone least most texts z (events ++ (one.0 ++ two.0))) (append-nil (lines ++ [])) (subst (HasJudged c.follow c.answers gone least most texts ((lines ++ []) ++ [])) (append_assoc events one.0 two.0) two.1))
+
+-- all lines were taken, and then events that waited
+pub last_more : (c d e : Course) → TakesLast c d → TakesMore d e → TakesLast c e
+last_more c d e last more gone least most texts bytes events h =
     let all = last gone least most texts bytes events h in
-    let next = ends least most texts all.0 (events ++ all.1) all.3.read in (
+    let next = more gone least most texts all.0 (events ++ all.1) all.3 in
+    (all.0, all.1 ++ next.0, all.2, subst (λ z. HasJudged e.follow e.answers gone least most texts z (events ++ (all.1 ++ next.0))) (append-nil all.0) (subst (HasJudged e.follow e.answers gone least most texts (all.0 ++ [])) (append_assoc events all.1 next.0) next.1))
+
+-- what waits has a stamp
+pub waits_stamped : (f : Follow) (least most : ℕ) (texts : List (List (List ℕ))) (lines : List (List ℕ)) (events : List Event) → HasRead f least most texts lines events → HasWaiting f → HaveStamps (length texts) lines
+waits_stamped f least most texts lines events h some = go h.form (h.here ++ f.waiting.turns.items) (λ none. some (both_none h.here f.waiting.turns.items none).1) h.lines_say h.waiting
+  where
+    go : (form : Form) (turns : List Turn) → (turns ≡ [] → ⊥) → SaysSoFar f form (length texts) lines turns → AreWaiting form f (h.earlier ++ h.here) → HaveStamps (length texts) lines
+    go Plain turns more says waits = absurd (some waits)
+    go Stamped turns more (inl (unheaded, none, nothing)) waits = absurd (more nothing)
+    go Stamped turns more (inr (headed, spells)) waits = (turns, spells)
+
+pub stamps_last : (c d : Course) → TakesLast c d → HasWaiting d.follow → HasStamps c
+stamps_last c d last some gone least most texts bytes events h =
+    let all = last gone least most texts bytes events h in
+    (all.0, all.2, waits_stamped d.follow least most texts all.0 (events ++ all.1) all.3.read some)
+
+-- a text has ended, and the next one begins
+pub text_done : (c d e : Course) → TakesLast c d → EndsText d.follow e.follow → d.follow.waiting.turns.items ≡ [] → e.rest.items ≡ [] → e.answers ≡ d.answers → EndsBytes c e
+text_done c d e last ends nothing none kept gone least most texts bytes events h =
+    let all = last gone least most texts bytes events h in
+    let next = ends least most texts all.0 (events ++ all.1) all.3.read nothing in (
       all.0,
       all.1,
       all.2,
@@ -176,8 +210,7 @@ text_done c d e last ends none kept gone least most texts bytes events h =
           read = next.0;
           in_time = λ quiet. subst (λ z. (length z < least) ⊎ (z ≡ [])) (sym next.2) (all.3.in_time quiet);
           first = subst (λ z. EndsFirst least z next.0.since) (sym next.1) (subst (EndsFirst least all.3.read.before) (sym next.2) all.3.first);
-          told = subst (λ z. HasTold z gone least ((texts ++ all.0 ∷ []) ++ [] ∷ []) next.0.before) (sym kept) (subst (HasTold d.answers gone least ((texts ++ all.0 ∷ []) ++ [] ∷ [])) (sym next.1)
-              (told_grown d.answers gone least (texts ++ all.0 ∷ []) ((texts ++ all.0 ∷ []) ++ [] ∷ []) all.3.read.before (place_behind (texts ++ all.0 ∷ []) ([] ∷ [])) all.3.told));
+          told = subst (λ z. HasTold z gone least next.0.places next.0.before) (sym kept) (subst (λ z. HasTold d.answers gone least z next.0.before) (sym next.3) (subst (HasTold d.answers gone least all.3.read.places) (sym next.1) all.3.told));
         };
       },
     )
@@ -199,7 +232,7 @@ none_followed c least most none read answered = record {
     read = read;
     in_time = λ quiet. inr (nothing_since read.before read.since read.windows);
     first = subst (EndsFirst least read.before) (sym (nothing_since read.before read.since read.windows)) (none_first least read.before);
-    told = subst (HasTold c.answers [] least ([] ∷ [])) (sym (nothing_before read.before read.since read.windows)) (none_told c.answers least ([] ∷ []) answered);
+    told = subst (HasTold c.answers [] least read.places) (sym (nothing_before read.before read.since read.windows)) (none_told c.answers least read.places answered);
   };
 }
 

@@ -1,5 +1,5 @@
 -- What was answered of the windows, with one window more.
-use Rattle.std.proofs.Common.{◌≡◌, ◌≢◌, ◌≤◌, ◌<◌, ◌+◌, ◌-◌, ◌^◌, ◌⊎◌, ◌++◌, ◌∙◌, min, ℕ, List, [], ◌∷◌, append-nil, append_assoc, arith, ap, flat_map, inl, inr, length, length-append, refl, subst, sym}
+use Rattle.std.proofs.Common.{◌≡◌, ◌≢◌, ◌≤◌, ◌<◌, ◌+◌, ◌⊎◌, ◌++◌, ◌∙◌, ℕ, List, [], ◌∷◌, append-nil, arith, ap, inl, inr, length, length-append, refl, subst, sym}
 use Rattle.std.proofs.lemmas.List.Concat.{flat_map-append}
 use Rattle.snap_core.specs.declared.event.Event.{Event}
 use Rattle.snap_theory.specs.Windows.{IsQuiet}
@@ -7,15 +7,16 @@ use Rattle.snap_windows.specs.Verdicts.{IsVerdict}
 use Rattle.snap_follow.specs.declared.answers.Answers.{Answers}
 use Rattle.snap_follow.specs.declared.course.Course.{Course}
 use Rattle.snap_follow.specs.declared.follow.Follow.{Follow}
+use Rattle.snap_follow.specs.declared.span.Place.{Place}
 use Rattle.snap_follow.specs.declared.follow.Window.{Window}
-use Rattle.snap_follow.specs.Followed.{HasRead, IsInTime, ReadsLine}
+use Rattle.snap_follow.specs.Followed.{HasRead, IsInTime, ReadsMore}
 use Rattle.snap_follow.specs.Misses.{AreMissed}
 use Rattle.snap_follow.specs.Places.{IsSpanIn}
 use Rattle.snap_follow.proofs.Missing.{missed_grown}
 use Rattle.snap_follow.specs.Spans.{IsSpanOf, stop}
-use Rattle.snap_follow.proofs.Placing.{Grows, place_grown, snoc_cases, span_grown}
+use Rattle.snap_follow.proofs.Placing.{Grows, grows_by, snoc_cases, span_grown}
 use Rattle.snap_follow.specs.Windows.{EndsFirst, HasEnded, IsToldAfter, Told, events_of}
-use Rattle.snap_follow.specs.inside.Courses.{HasJudged, TakesLine}
+use Rattle.snap_follow.specs.inside.Courses.{HasJudged, TakesLines}
 use Rattle.snap_follow.specs.inside.Sums.{AddsLast, AddsWindow, HasAnswered, HasTold, HasToldAll}
 
 no_events : (xs : List Event) → length xs ≡ 0 → xs ≡ []
@@ -78,35 +79,35 @@ events_more : (told : List Told) (t : Told) (before since : List Event) → even
 events_more told t before since b s = flat_map-append (λ x. x.events) told (t ∷ []) ∙ ap (λ z. events_of told ++ z) (append-nil t.events ∙ s) ∙ ap (λ z. z ++ since) b
 
 -- what is so of a window that was found is so of it where it was written
-told_after : (least : ℕ) (texts : List (List (List ℕ))) (told : List Told) (t : Told) (before since : List Event) (window : Window) → t.window ≡ window → t.events ≡ since → t.number ≡ stop (length told + 1) → events_of told ≡ before →
-    IsSpanOf window.span since → IsSpanIn window.span texts (length before) (length since) → AreMissed texts before since window.span.missed → IsVerdict window.verdict before since → EndsFirst least before since → (0 < least → since ≢ []) → IsToldAfter least texts told t
-told_after least texts told t before since window w e n b span places missed verdict first some = record {
+told_after : (least : ℕ) (stands : List Place) (told : List Told) (t : Told) (before since : List Event) (window : Window) → t.window ≡ window → t.events ≡ since → t.number ≡ stop (length told + 1) → events_of told ≡ before →
+    IsSpanOf window.span since → IsSpanIn window.span stands (length before) (length since) → AreMissed stands before since window.span.missed → IsVerdict window.verdict before since → EndsFirst least before since → (0 < least → since ≢ []) → IsToldAfter least stands told t
+told_after least stands told t before since window w e n b span places missed verdict first some = record {
   number = n;
   span = subst (λ z. IsSpanOf z.span t.events) (sym w) (subst (IsSpanOf window.span) (sym e) span);
-  places = subst (λ z. IsSpanIn z.span texts (length (events_of told)) (length t.events)) (sym w) (subst (λ z. IsSpanIn window.span texts (length z) (length t.events)) (sym b) (subst (λ z. IsSpanIn window.span texts (length before) (length z)) (sym e) places));
-  missed = subst (λ z. AreMissed texts (events_of told) t.events z.span.missed) (sym w) (subst (λ z. AreMissed texts z t.events window.span.missed) (sym b) (subst (λ z. AreMissed texts before z window.span.missed) (sym e) missed));
+  places = subst (λ z. IsSpanIn z.span stands (length (events_of told)) (length t.events)) (sym w) (subst (λ z. IsSpanIn window.span stands (length z) (length t.events)) (sym b) (subst (λ z. IsSpanIn window.span stands (length before) (length z)) (sym e) places));
+  missed = subst (λ z. AreMissed stands (events_of told) t.events z.span.missed) (sym w) (subst (λ z. AreMissed stands z t.events window.span.missed) (sym b) (subst (λ z. AreMissed stands before z window.span.missed) (sym e) missed));
   verdict = subst (λ z. IsVerdict z.verdict (events_of told) t.events) (sym w) (subst (λ z. IsVerdict window.verdict z t.events) (sym b) (subst (IsVerdict window.verdict before) (sym e) verdict));
   first = subst (λ z. EndsFirst least z t.events) (sym b) (subst (EndsFirst least before) (sym e) first);
   some = λ lt none. some lt (sym e ∙ none);
 }
 
 -- a window that has ended was answered
-window_told : (a b : Answers) (gone : List ℕ) (least : ℕ) (texts : List (List (List ℕ))) (before since : List Event) (window : Window) → HasTold a gone least texts before → AddsWindow a b window →
-    IsSpanOf window.span since → IsSpanIn window.span texts (length before) (length since) → AreMissed texts before since window.span.missed → IsVerdict window.verdict before since → EndsFirst least before since → HasEnded least before since → HasTold b gone least texts (before ++ since)
-window_told a b gone least texts before since window h adds span places missed verdict first ended =
+window_told : (a b : Answers) (gone : List ℕ) (least : ℕ) (stands : List Place) (before since : List Event) (window : Window) → HasTold a gone least stands before → AddsWindow a b window →
+    IsSpanOf window.span since → IsSpanIn window.span stands (length before) (length since) → AreMissed stands before since window.span.missed → IsVerdict window.verdict before since → EndsFirst least before since → HasEnded least before since → HasTold b gone least stands (before ++ since)
+window_told a b gone least stands before since window h adds span places missed verdict first ended =
     let next = adds gone h.told since span h.answered in
     record {
       told = h.told ++ next.0 ∷ [];
       answered = next.4;
       all = events_more h.told next.0 before since h.all next.2;
-      each = each_more (λ front x. IsToldAfter least texts front x) h.told next.0 h.each
-          (told_after least texts h.told next.0 before since window next.1 next.2 next.3 h.all span places missed verdict first (λ some none. omega (arith, ended.0, some, ap length none)));
+      each = each_more (λ front x. IsToldAfter least stands front x) h.told next.0 h.each
+          (told_after least stands h.told next.0 before since window next.1 next.2 next.3 h.all span places missed verdict first (λ some none. omega (arith, ended.0, some, ap length none)));
       ended = each_more (λ front x. HasEnded least (events_of front) x.events) h.told next.0 h.ended
           (subst (λ z. HasEnded least z next.0.events) (sym h.all) (subst (HasEnded least before) (sym next.2) ended));
     }
 
--- what was told stays so once the texts have grown
-pub told_grown : (a : Answers) (gone : List ℕ) (least : ℕ) (all new : List (List (List ℕ))) (before : List Event) → Grows all new → HasTold a gone least all before → HasTold a gone least new before
+-- what was told stays so once the places have grown
+pub told_grown : (a : Answers) (gone : List ℕ) (least : ℕ) (all new : List Place) (before : List Event) → Grows all new → HasTold a gone least all before → HasTold a gone least new before
 told_grown a gone least all new before grows h = record {
   told = h.told;
   answered = h.answered;
@@ -126,8 +127,8 @@ told_grown a gone least all new before grows h = record {
 }
 
 -- no window was answered so far
-pub none_told : (a : Answers) (least : ℕ) (texts : List (List (List ℕ))) → HasAnswered a [] [] → HasTold a [] least texts []
-none_told a least texts answered = record {
+pub none_told : (a : Answers) (least : ℕ) (stands : List Place) → HasAnswered a [] [] → HasTold a [] least stands []
+none_told a least stands answered = record {
   told = [];
   answered = answered;
   all = refl;
@@ -135,18 +136,17 @@ none_told a least texts answered = record {
   ended = λ front behind t is. absurd (omega (arith, ap length is, length-append front (t ∷ behind)));
 }
 
--- a line was read, and a window ended after it
-pub cut_then : (c d : Course) (g : Follow) (line : List ℕ) (window : Window) → ReadsLine c.follow g line →
-    ((least most : ℕ) (texts : List (List (List ℕ))) (lines : List (List ℕ)) (events : List Event) (h : HasRead g least most texts lines events) → (n : HasRead d.follow least most texts lines events) × (n.before ≡ h.before ++ h.since) × (n.since ≡ [])) →
+-- lines were read, and a window ended after them
+pub cut_then : (c d : Course) (g : Follow) (added : List (List ℕ)) (window : Window) → ReadsMore c.follow g added →
+    ((least most : ℕ) (texts : List (List (List ℕ))) (lines : List (List ℕ)) (events : List Event) (h : HasRead g least most texts lines events) → (n : HasRead d.follow least most texts lines events) × (n.before ≡ h.before ++ h.since) × (n.since ≡ []) × (n.places ≡ h.places)) →
     ((least most : ℕ) (texts : List (List (List ℕ))) (lines : List (List ℕ)) (events : List Event) (h : HasRead g least most texts lines events) → IsVerdict window.verdict h.before h.since) →
     ((least most : ℕ) (texts : List (List (List ℕ))) (lines : List (List ℕ)) (events : List Event) (h : HasRead g least most texts lines events) → least ≤ length h.since) →
-    window.span ≡ g.span → AddsWindow c.answers d.answers window → TakesLine c d line
-cut_then c d g line window reads ends verdict enough span adds gone least most texts lines events h =
+    window.span ≡ g.span → AddsWindow c.answers d.answers window → TakesLines c d added
+cut_then c d g added window reads ends verdict enough span adds gone least most texts lines events h =
     let read = reads least most texts lines events h.read in
     let r = read.2 in
-    let next = ends least most texts (lines ++ line ∷ []) (events ++ read.0) r in
-    let all : List (List (List ℕ)) = texts ++ (lines ++ line ∷ []) ∷ [] in
-    let told = told_grown c.answers gone least (texts ++ lines ∷ []) all h.read.before (place_grown texts lines (line ∷ [])) h.told in
+    let next = ends least most texts (lines ++ added) (events ++ read.0) r in
+    let told = told_grown c.answers gone least h.read.places r.places h.read.before (grows_by h.read.places r.places read.5 read.6) h.told in
     let first : EndsFirst least r.before r.since =
     subst (λ z. EndsFirst least z r.since) (sym read.3) (subst (EndsFirst least h.read.before) (sym read.4) (first_more least events h.read.before h.read.since read.0 read.1 h.read.windows h.in_time h.first)) in (
       read.0,
@@ -154,29 +154,29 @@ cut_then c d g line window reads ends verdict enough span adds gone least most t
         read = next.0;
         in_time = λ quiet. inr next.2;
         first = subst (EndsFirst least next.0.before) (sym next.2) (none_first least next.0.before);
-        told = subst (HasTold d.answers gone least all) (sym next.1)
-            (window_told c.answers d.answers gone least all r.before r.since window (subst (HasTold c.answers gone least all) (sym read.3) told) adds
-            (subst (λ z. IsSpanOf z r.since) (sym span) r.span_is) (subst (λ z. IsSpanIn z all (length r.before) (length r.since)) (sym span) r.span_in) (subst (λ z. AreMissed all r.before r.since z.missed) (sym span) r.missed)
-            (verdict least most texts (lines ++ line ∷ []) (events ++ read.0) r) first
-            (enough least most texts (lines ++ line ∷ []) (events ++ read.0) r, subst IsQuiet next.1 next.0.taken.quiet));
+        told = subst (λ z. HasTold d.answers gone least z next.0.before) (sym next.3) (subst (HasTold d.answers gone least r.places) (sym next.1)
+            (window_told c.answers d.answers gone least r.places r.before r.since window (subst (HasTold c.answers gone least r.places) (sym read.3) told) adds
+            (subst (λ z. IsSpanOf z r.since) (sym span) r.span_is) (subst (λ z. IsSpanIn z r.places (length r.before) (length r.since)) (sym span) r.span_in) (subst (λ z. AreMissed r.places r.before r.since z.missed) (sym span) r.missed)
+            (verdict least most texts (lines ++ added) (events ++ read.0) r) first
+            (enough least most texts (lines ++ added) (events ++ read.0) r, subst IsQuiet next.1 next.0.taken.quiet)));
       },
     )
 
 -- or none could end there
-pub none_then : (c d : Course) (g : Follow) (line : List ℕ) → ReadsLine c.follow g line → d.follow ≡ g → d.answers ≡ c.answers →
-    ((least most : ℕ) (texts : List (List (List ℕ))) (lines : List (List ℕ)) (events : List Event) (r : HasRead g least most texts lines events) → IsQuiet events → length r.since < least) → TakesLine c d line
-none_then c d g line reads same kept short gone least most texts lines events h =
+pub none_then : (c d : Course) (g : Follow) (added : List (List ℕ)) → ReadsMore c.follow g added → d.follow ≡ g → d.answers ≡ c.answers →
+    ((least most : ℕ) (texts : List (List (List ℕ))) (lines : List (List ℕ)) (events : List Event) (r : HasRead g least most texts lines events) → IsQuiet events → length r.since < least) → TakesLines c d added
+none_then c d g added reads same kept short gone least most texts lines events h =
     let read = reads least most texts lines events h.read in
     let r = read.2 in
     let first : EndsFirst least r.before r.since =
     subst (λ z. EndsFirst least z r.since) (sym read.3) (subst (EndsFirst least h.read.before) (sym read.4) (first_more least events h.read.before h.read.since read.0 read.1 h.read.windows h.in_time h.first)) in (
       read.0,
-      subst (λ z. HasJudged z d.answers gone least most texts (lines ++ line ∷ []) (events ++ read.0)) (sym same) (subst (λ z. HasJudged g z gone least most texts (lines ++ line ∷ []) (events ++ read.0)) (sym kept) (record {
+      subst (λ z. HasJudged z d.answers gone least most texts (lines ++ added) (events ++ read.0)) (sym same) (subst (λ z. HasJudged g z gone least most texts (lines ++ added) (events ++ read.0)) (sym kept) (record {
         read = r;
-        in_time = λ quiet. inl (short least most texts (lines ++ line ∷ []) (events ++ read.0) r quiet);
+        in_time = λ quiet. inl (short least most texts (lines ++ added) (events ++ read.0) r quiet);
         first = first;
-        told = subst (HasTold c.answers gone least (texts ++ (lines ++ line ∷ []) ∷ [])) (sym read.3)
-            (told_grown c.answers gone least (texts ++ lines ∷ []) (texts ++ (lines ++ line ∷ []) ∷ []) h.read.before (place_grown texts lines (line ∷ [])) h.told);
+        told = subst (HasTold c.answers gone least r.places) (sym read.3)
+            (told_grown c.answers gone least h.read.places r.places h.read.before (grows_by h.read.places r.places read.5 read.6) h.told);
       })),
     )
 
@@ -186,16 +186,16 @@ no_last since n is none = no_events since (omega (arith, is, none))
 
 pub all_told : (f : Follow) (a b : Answers) (window : Window) → window.span ≡ f.span →
     ((least most : ℕ) (texts : List (List (List ℕ))) (lines : List (List ℕ)) (events : List Event) (h : HasRead f least most texts lines events) → IsVerdict window.verdict h.before h.since) →
-    AddsLast a b window → (gone : List ℕ) (least most : ℕ) (texts : List (List (List ℕ))) (lines : List (List ℕ)) (events : List Event) → HasJudged f a gone least most texts lines events → HasToldAll b gone least (texts ++ lines ∷ []) events
+    AddsLast a b window → (gone : List ℕ) (least most : ℕ) (texts : List (List (List ℕ))) (lines : List (List ℕ)) (events : List Event) (h : HasJudged f a gone least most texts lines events) → HasToldAll b gone least h.read.places events
 all_told f a b window span verdict adds gone least most texts lines events h = go adds
   where
     spans : IsSpanOf window.span h.read.since
     spans = subst (λ z. IsSpanOf z h.read.since) (sym span) h.read.span_is
 
-    places : IsSpanIn window.span (texts ++ lines ∷ []) (length h.read.before) (length h.read.since)
-    places = subst (λ z. IsSpanIn z (texts ++ lines ∷ []) (length h.read.before) (length h.read.since)) (sym span) h.read.span_in
+    places : IsSpanIn window.span h.read.places (length h.read.before) (length h.read.since)
+    places = subst (λ z. IsSpanIn z h.read.places (length h.read.before) (length h.read.since)) (sym span) h.read.span_in
 
-    go : AddsLast a b window → HasToldAll b gone least (texts ++ lines ∷ []) events
+    go : AddsLast a b window → HasToldAll b gone least h.read.places events
     go (inl (none, same)) =
         let since : h.read.since ≡ [] = no_last h.read.since window.span.events spans.events_are none in
         record {
@@ -214,8 +214,8 @@ all_told f a b window span verdict adds gone least most texts lines events h = g
           answered = next.4;
           windows = record {
             all = events_more h.told.told next.0 h.read.before h.read.since h.told.all next.2 ∙ sym h.read.windows;
-            each = each_more (λ front x. IsToldAfter least (texts ++ lines ∷ []) front x) h.told.told next.0 h.told.each
-                (told_after least (texts ++ lines ∷ []) h.told.told next.0 h.read.before h.read.since window next.1 next.2 next.3 h.told.all spans places (subst (λ z. AreMissed (texts ++ lines ∷ []) h.read.before h.read.since z.missed) (sym span) h.read.missed) (verdict least most texts lines events h.read) h.first
+            each = each_more (λ front x. IsToldAfter least h.read.places front x) h.told.told next.0 h.told.each
+                (told_after least h.read.places h.told.told next.0 h.read.before h.read.since window next.1 next.2 next.3 h.told.all spans places (subst (λ z. AreMissed h.read.places h.read.before h.read.since z.missed) (sym span) h.read.missed) (verdict least most texts lines events h.read) h.first
                 (λ lt none. omega (arith, some, spans.events_are, ap length none)));
             ended = each_but_last (λ front x. HasEnded least (events_of front) x.events) h.told.told next.0 h.told.ended;
           };

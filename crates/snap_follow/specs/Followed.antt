@@ -1,5 +1,5 @@
 -- What the lines of a recording say.
-use Rattle.std.specs.Prelude.{⊤, ℕ, true, false, not, List, [], ◌∷◌, ◌++◌, ◌+◌, ◌-◌, ◌^◌, min, ◌≡◌, ◌≢◌, ◌⊎◌, ◌↔◌, ◌≤◌, ◌<◌, Ok, count_by, map, flat_map, length}
+use Rattle.std.specs.Prelude.{⊤, ℕ, true, false, not, List, [], ◌∷◌, ◌++◌, ◌+◌, ◌-◌, ◌^◌, min, ◌≡◌, ◌≢◌, ◌⊎◌, ◌↔◌, ◌≤◌, ◌<◌, Ok, Option, Some, None, slice_index_or, count_by, flat_map, length}
 use Rattle.snap_core.specs.declared.event.Event.{Event}
 use Rattle.snap_core.specs.Calls.{calls_of}
 use Rattle.snap_core.specs.Events.{IsHistory}
@@ -8,36 +8,42 @@ use Rattle.snap_core.specs.Refusals.{is_begin}
 use Rattle.snap_core.specs.Regular.{IsRegular}
 use Rattle.snap_format.specs.Layout.{is_header_row}
 use Rattle.snap_format.specs.Rows.{rows_of}
+use Rattle.snap_format.specs.Stamps.{stamped_row}
 use Rattle.snap_text.specs.Fields.{Fields, row_event}
 use Rattle.snap_follow.specs.Misses.{AreMissed}
 use Rattle.snap_follow.specs.Places.{IsSpanIn}
 use Rattle.snap_follow.specs.Spans.{IsSpanOf}
+use Rattle.snap_follow.specs.Turns.{RiseFrom, Spells, after, after_given, events_of, places_of, stamps_of}
 use Rattle.snap_follow.specs.declared.follow.Ended.{Ended}
-use Rattle.snap_follow.specs.declared.follow.Ended.TheVariants.{Refused, Memory}
+use Rattle.snap_follow.specs.declared.follow.Ended.TheVariants.{Refused, Late, Memory}
 use Rattle.snap_follow.specs.declared.follow.Follow.{Follow}
-use Rattle.snap_follow.specs.declared.follow.Place.{Place}
-use Rattle.snap_text.specs.declared.fault.TextFault.TheVariants.{TooMany}
+use Rattle.snap_follow.specs.declared.form.Form.{Form}
+use Rattle.snap_follow.specs.declared.form.Form.TheVariants.{Plain, Stamped}
+use Rattle.snap_follow.specs.declared.span.Place.{Place}
+use Rattle.snap_follow.specs.declared.waiting.Turn.{Turn}
+use Rattle.snap_text.specs.declared.fault.TextFault.TheVariants.{Repeated, TooMany}
 use Rattle.snap_theory.specs.Windows.{IsQuiet}
 use Rattle.snap_windows.specs.Taken.{HasTaken}
 use Rattle.snap_windows.specs.declared.judge.WindowJudge.{WindowJudge}
 
--- records that begin with a header, and each other spells one of these events
-pub record Spells (rows : List Fields) (events : List Event) : Type 0 where
-  pub head : Fields
-  pub later : List Fields
-  pub whole : rows ≡ head ∷ later
-  pub header : is_header_row head ≡ true
-  pub spelled : map row_event later ≡ map Ok events
-
--- texts, each the list of its lines, whose records spell these events, one text after the other
-abbrev pub AllSpell : List (List (List ℕ)) → List Event → Type 0
-AllSpell [] events = events ≡ []
-AllSpell (text ∷ texts) events = (here : List Event) × (later : List Event) × (events ≡ here ++ later) × Spells (flat_map rows_of text) here × AllSpell texts later
+-- texts from this number on, each the list of its lines, whose records spell these events, one text after the other
+abbrev pub AllSpell : Form → ℕ → List (List (List ℕ)) → List Turn → Type 0
+AllSpell form n [] turns = turns ≡ []
+AllSpell form n (text ∷ texts) turns = (here : List Turn) × (later : List Turn) × (turns ≡ here ++ later) × Spells form n (flat_map rows_of text) here × AllSpell form (n + 1) texts later
 
 -- what the lines of the text at hand say, whether its header was read or not
-abbrev pub SaysSoFar : Follow → List (List ℕ) → List Event → Type 0
-SaysSoFar follow lines events =
-    ((follow.headed ≡ false) × (flat_map rows_of lines ≡ []) × (events ≡ [])) ⊎ ((follow.headed ≡ true) × Spells (flat_map rows_of lines) events)
+abbrev pub SaysSoFar : Follow → Form → ℕ → List (List ℕ) → List Turn → Type 0
+SaysSoFar follow form n lines turns =
+    ((follow.headed ≡ false) × (flat_map rows_of lines ≡ []) × (turns ≡ [])) ⊎ ((follow.headed ≡ true) × Spells form n (flat_map rows_of lines) turns)
+
+-- the texts have this header; none was read if none is known
+abbrev pub IsFormOf : Follow → Form → List (List (List ℕ)) → Type 0
+IsFormOf follow form texts = ((follow.form ≡ Some form) × ((follow.headed ≡ true) ⊎ (texts ≢ []))) ⊎ ((follow.form ≡ None) × (follow.headed ≡ false) × (texts ≡ []) × (follow.given ≡ None))
+
+-- records wait only if they have stamps. All stamps rise, and those of the events that the judge was given are below all that wait
+abbrev pub AreWaiting : Form → Follow → List Turn → Type 0
+AreWaiting Plain follow taken = follow.waiting.turns.items ≡ []
+AreWaiting Stamped follow taken = RiseFrom 0 (stamps_of (taken ++ follow.waiting.turns.items)) × (after_given follow.given ≡ after 0 (stamps_of taken))
 
 -- how many more calls these events begin than they end
 abbrev pub open_after : List Event → ℕ
@@ -46,14 +52,14 @@ open_after events = count_by is_begin events - count_by (λ x. not (is_begin x))
 -- a place is that of the last record of these lines, after these texts. Its numbers stop at 2 ^ 64 - 1
 pub record IsPlaceOf (place : Place) (texts : List (List (List ℕ))) (lines : List (List ℕ)) : Type 0 where
   pub text_is : place.text ≡ min (length texts) (2 ^ 64 - 1)
-  pub record_is : place.record ≡ min (length (flat_map rows_of lines)) (2 ^ 64 - 1)
+  pub record_is : place.number ≡ min (length (flat_map rows_of lines)) (2 ^ 64 - 1)
 
 -- the record after one of the same text
 abbrev pub IsNext : Place → Place → Type 0
-IsNext place next = (next.text ≡ place.text) × (next.record ≡ min (place.record + 1) (2 ^ 64 - 1))
+IsNext place next = (next.text ≡ place.text) × (next.number ≡ min (place.number + 1) (2 ^ 64 - 1))
 
--- a recording was followed so far: the records of some whole texts, and of the lines of the text at hand, spell these events. Its
--- judge has taken them. A window ends from `least` events on, and has at most `most`
+-- a recording was followed so far: the records of some whole texts, and of the lines of the text at hand, spell these events, and those
+-- that wait. Its judge has taken them. A window ends from `least` events on, and has at most `most`
 pub record HasRead (follow : Follow) (least most : ℕ) (texts : List (List (List ℕ))) (lines : List (List ℕ)) (events : List Event) : Type 0 where
   pub least_is : follow.least ≡ least
   pub most_is : follow.judge.most.events ≡ most
@@ -64,29 +70,48 @@ pub record HasRead (follow : Follow) (least most : ℕ) (texts : List (List (Lis
   pub taken : HasTaken follow.judge before since
   pub windows : events ≡ before ++ since
   pub span_is : IsSpanOf follow.span since
-  pub span_in : IsSpanIn follow.span (texts ++ lines ∷ []) (length before) (length since)
-  pub missed : AreMissed (texts ++ lines ∷ []) before since follow.span.missed
-  pub earlier : List Event
-  pub here : List Event
-  pub parts : events ≡ earlier ++ here
-  pub texts_say : AllSpell texts earlier
-  pub lines_say : SaysSoFar follow lines here
+  pub form : Form
+  pub form_is : IsFormOf follow form texts
+  -- the events of the texts before, and those of the text at hand that the judge was given
+  pub earlier : List Turn
+  pub here : List Turn
+  pub said : events ≡ events_of (earlier ++ here)
+  pub places : List Place
+  pub places_are : places ≡ places_of (earlier ++ here)
+  pub span_in : IsSpanIn follow.span places (length before) (length since)
+  pub missed : AreMissed places before since follow.span.missed
+  pub texts_say : AllSpell form 0 texts earlier
+  -- the others wait
+  pub lines_say : SaysSoFar follow form (length texts) lines (here ++ follow.waiting.turns.items)
+  pub waiting : AreWaiting form follow (earlier ++ here)
   pub place_is : IsPlaceOf follow.place texts lines
 
--- a line more was read: it says nothing more, or one event of the window at hand
-abbrev pub ReadsLine : Follow → Follow → List ℕ → Type 0
-ReadsLine old new line = (least most : ℕ) (texts : List (List (List ℕ))) (lines : List (List ℕ)) (events : List Event) (h : HasRead old least most texts lines events) →
-    (more : List Event) × (length more ≤ 1) × (n : HasRead new least most texts (lines ++ line ∷ []) (events ++ more)) × (n.before ≡ h.before) × (n.since ≡ h.since ++ more)
+-- lines more were read: the judge was given nothing more, or one event of the window at hand
+abbrev pub ReadsMore : Follow → Follow → List (List ℕ) → Type 0
+ReadsMore old new added = (least most : ℕ) (texts : List (List (List ℕ))) (lines : List (List ℕ)) (events : List Event) (h : HasRead old least most texts lines events) →
+    (more : List Event) × (length more ≤ 1) × (n : HasRead new least most texts (lines ++ added) (events ++ more)) × (n.before ≡ h.before) × (n.since ≡ h.since ++ more) × (places : List Place) × (n.places ≡ h.places ++ places)
 
--- records that go on with a recording of these events. There are none, or they are the header alone if none was read. If one was, they
--- are one record that spells an event with which the events are a history
+abbrev pub ReadsLine : Follow → Follow → List ℕ → Type 0
+ReadsLine old new line = ReadsMore old new (line ∷ [])
+
+-- the judge was given the first event that waits, if one does
+abbrev pub TakesFirst : Follow → Follow → Type 0
+TakesFirst old new = ReadsMore old new []
+
+-- no header with stamps was read
+abbrev pub IsPlain : Follow → Type 0
+IsPlain follow = follow.form ≢ Some Stamped
+
+-- records that go on with a recording of these events without stamps. There are none, or they are the header alone if none was read. If
+-- one was, they are one record that spells an event with which the events are a history
 abbrev pub GoesOn : Follow → List Event → List Fields → Type 0
-GoesOn follow events rows = (rows ≡ []) ⊎ (((follow.headed ≡ false) × (head : Fields) × (rows ≡ head ∷ []) × (is_header_row head ≡ true))
-    ⊎ ((follow.headed ≡ true) × (row : Fields) × (x : Event) × (rows ≡ row ∷ []) × (row_event row ≡ Ok x) × IsHistory (events ++ x ∷ [])))
+GoesOn follow events rows = (rows ≡ []) ⊎ (((follow.headed ≡ false) × IsPlain follow × (head : Fields) × (rows ≡ head ∷ []) × (is_header_row head ≡ true))
+    ⊎ ((follow.headed ≡ true) × IsPlain follow × (row : Fields) × (x : Event) × (rows ≡ row ∷ []) × (row_event row ≡ Ok x) × IsHistory (events ++ x ∷ [])))
 
 -- the window of these events has as many as it may have, or memory ran out
 abbrev pub IsLack : WindowJudge → List Event → Ended → Type 0
 IsLack judge since (Refused place fault) = (fault ≡ TooMany) × (judge.most.events ≤ length since)
+IsLack judge since (Late place) = ⊥
 IsLack judge since Memory = ⊤
 
 -- records are to be events: the header was read, and there are some
@@ -97,6 +122,29 @@ AreEvents follow rows = (follow.headed ≡ true) × (rows ≢ [])
 abbrev pub RefusesLine : Follow → List ℕ → Ended → Type 0
 RefusesLine old line why = (least most : ℕ) (texts : List (List (List ℕ))) (lines : List (List ℕ)) (events : List Event) (h : HasRead old least most texts lines events) →
     GoesOn old events (rows_of line) → IsLack old.judge h.since why × ((why ≡ Memory) ⊎ AreEvents old (rows_of line))
+
+-- a stamp is not above the last that the judge was given
+abbrev pub IsLate : Option ℕ → ℕ → Type 0
+IsLate None at = ⊥
+IsLate (Some last) at = at ≤ last
+
+-- one of these turns has a stamp
+abbrev pub HasStamp : List Turn → ℕ → Type 0
+HasStamp turns at = (i : ℕ) × (i < length turns) × ((d : Turn) → (slice_index_or turns i d).at ≡ at)
+
+-- A record with a stamp is refused only if the stamp comes too late, or if one with this stamp waits. Otherwise as many wait as may, so
+-- that an event went to the judge, or memory ran out.
+abbrev pub RefusesStamp : Option ℕ → List Turn → ℕ → ℕ → Ended → Type 0
+RefusesStamp given turns late at (Late place) = IsLate given at ⊎ (late ≤ length turns)
+RefusesStamp given turns late at (Refused place fault) = ((fault ≡ Repeated) × HasStamp turns at) ⊎ (late ≤ length turns)
+RefusesStamp given turns late at Memory = ⊤
+
+abbrev pub RefusesStamped : Follow → List ℕ → Ended → Type 0
+RefusesStamped old line why = (row : Fields) (at : ℕ) (x : Event) → old.headed ≡ true → old.form ≡ Some Stamped → rows_of line ≡ row ∷ [] → stamped_row row ≡ Ok (at, x) → RefusesStamp old.given old.waiting.turns.items old.late at why
+
+-- no more records wait than may
+abbrev pub WaitsWithin : Follow → Follow → Type 0
+WaitsWithin old new = (new.late ≡ old.late) × (length old.waiting.turns.items ≤ old.late → length new.waiting.turns.items ≤ old.late)
 
 -- a line stops a recording: it does not go on with it, or the window at hand has no room for its event
 abbrev pub StopsAt : Follow → List ℕ → Type 0
@@ -111,10 +159,10 @@ HasNoRecord follow = (least most : ℕ) (texts : List (List (List ℕ))) (lines 
 abbrev pub IsInTime : ℕ → List Event → List Event → Type 0
 IsInTime least events since = IsQuiet events → (length since < least) ⊎ (since ≡ [])
 
--- the text at hand has ended, and the next one begins, in the same window
+-- the text at hand has ended, of which nothing waits, and the next one begins, in the same window
 abbrev pub EndsText : Follow → Follow → Type 0
-EndsText old new = (least most : ℕ) (texts : List (List (List ℕ))) (lines : List (List ℕ)) (events : List Event) (h : HasRead old least most texts lines events) →
-    (n : HasRead new least most (texts ++ lines ∷ []) [] events) × (n.before ≡ h.before) × (n.since ≡ h.since)
+EndsText old new = (least most : ℕ) (texts : List (List (List ℕ))) (lines : List (List ℕ)) (events : List Event) (h : HasRead old least most texts lines events) → old.waiting.turns.items ≡ [] →
+    (n : HasRead new least most (texts ++ lines ∷ []) [] events) × (n.before ≡ h.before) × (n.since ≡ h.since) × (n.places ≡ h.places)
 
 -- the exit status of a recording of these events
 pub record IsStatusOf (events : List Event) (code : ℕ) : Type 0 where

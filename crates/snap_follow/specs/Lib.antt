@@ -5,6 +5,7 @@ pub mod Places
 pub mod Recordings
 pub mod Spans
 pub mod Texts
+pub mod Turns
 pub mod Windows
 pub mod Written
 pub mod inside

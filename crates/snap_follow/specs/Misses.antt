@@ -1,5 +1,5 @@
 -- What the views of a window miss.
-use Rattle.std.specs.Prelude.{◌≡◌, ◌+◌, ◌++◌, ℕ, List, ◌∷◌, Option, Some, None, MatchOption, All, length}
+use Rattle.std.specs.Prelude.{◌≡◌, ◌+◌, ◌++◌, List, ◌∷◌, Option, Some, None, MatchOption, All, length}
 use Rattle.snap_core.specs.declared.entry.Entry.{Entry}
 use Rattle.snap_core.specs.declared.event.Event.{Event}
 use Rattle.snap_theory.specs.Windows.{left_by}
@@ -7,22 +7,22 @@ use Rattle.snap_windows.specs.Missed.{EventMisses, EventShowsNoLess}
 use Rattle.snap_windows.specs.Taken.{HasTaken}
 use Rattle.snap_windows.specs.declared.judge.WindowJudge.{WindowJudge}
 use Rattle.snap_follow.specs.Places.{IsPlaceOfEvent}
-use Rattle.snap_follow.specs.declared.follow.Place.{Place}
+use Rattle.snap_follow.specs.declared.span.Place.{Place}
 
 -- an entry that was left before a window, and the place at which the first view of it ends that shows neither that nor a later number
-pub record IsFirstMiss (texts : List (List (List ℕ))) (before window : List Event) (entry : Entry) (place : Place) : Type 0 where
+pub record IsFirstMiss (places : List Place) (before window : List Event) (entry : Entry) (place : Place) : Type 0 where
   pub front : List Event
   pub view : Event
   pub behind : List Event
   pub parts : window ≡ front ++ view ∷ behind
   pub shown : All (EventShowsNoLess (left_by before)) front
   pub misses : EventMisses (left_by before) view entry
-  pub place_is : IsPlaceOfEvent texts (length before + length front + 1) place
+  pub place_is : IsPlaceOfEvent places (length before + length front + 1) place
 
 -- what the views of a window miss first, if one misses anything
-abbrev pub AreMissed : List (List (List ℕ)) → List Event → List Event → Option (Entry × Place) → Type 0
-AreMissed texts before window None = All (EventShowsNoLess (left_by before)) window
-AreMissed texts before window (Some missed) = IsFirstMiss texts before window missed.0 missed.1
+abbrev pub AreMissed : List Place → List Event → List Event → Option (Entry × Place) → Type 0
+AreMissed places before window None = All (EventShowsNoLess (left_by before)) window
+AreMissed places before window (Some missed) = IsFirstMiss places before window missed.0 missed.1
 
 -- what was missed first, once one event more has come, which may miss something
 abbrev pub first_missed : Option (Entry × Place) → Option Entry → Place → Option (Entry × Place)

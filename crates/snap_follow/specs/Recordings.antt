@@ -6,9 +6,13 @@ use Rattle.snap_core.specs.declared.event.Event.{Event}
 use Rattle.snap_core.specs.Events.{IsHistory}
 use Rattle.snap_format.specs.Rows.{rows_of}
 use Rattle.snap_follow.specs.Bytes.{AreAllLines, AreLinesOf}
-use Rattle.snap_follow.specs.Followed.{AllSpell, IsStatusOf, Spells}
+use Rattle.snap_follow.specs.Followed.{AllSpell, IsStatusOf}
+use Rattle.snap_follow.specs.Turns.{AreInTurn, Spells, events_of, places_of}
 use Rattle.snap_follow.specs.Windows.{AreWindowsOf, Told, line_of, sums_text, views_of}
 use Rattle.snap_follow.specs.declared.course.TheConstants.{RECORD_LIMIT}
+use Rattle.snap_follow.specs.declared.form.Form.{Form}
+use Rattle.snap_follow.specs.declared.form.Form.TheVariants.{Plain}
+use Rattle.snap_follow.specs.declared.waiting.Turn.{Turn}
 use Rattle.snap_follow.specs.declared.run.FollowOptions.{FollowOptions}
 use Rattle.snap_follow.specs.declared.run.Followed.{Followed}
 use Rattle.snap_follow.specs.declared.run.Until.{Until}
@@ -29,37 +33,41 @@ pub record AreCut (until : Until) (texts : List (List ℕ)) (earlier : List (Lis
   pub whole : AllZip AreAllLines before earlier
   pub lines : AreLastLines until text last rest
 
--- the records of these lines spell the events. A text after others may have no record so far
-pub record AllSay (earlier : List (List (List ℕ))) (last : List (List ℕ)) (events : List Event) : Type 0 where
-  pub before : List Event
-  pub here : List Event
-  pub parts : events ≡ before ++ here
-  pub texts_say : AllSpell earlier before
-  pub last_says : Spells (flat_map rows_of last) here ⊎ ((earlier ≢ []) × (flat_map rows_of last ≡ []) × (here ≡ []))
+-- the records of these lines spell the events, in their turn. A text after others may have no record so far
+pub record AllSay (form : Form) (earlier : List (List (List ℕ))) (last : List (List ℕ)) (turns : List Turn) : Type 0 where
+  pub before : List Turn
+  pub here : List Turn
+  pub parts : turns ≡ before ++ here
+  pub texts_say : AllSpell form 0 earlier before
+  pub last_says : Spells form (length earlier) (flat_map rows_of last) here ⊎ ((earlier ≢ []) × (flat_map rows_of last ≡ []) × (here ≡ []))
+  pub in_turn : AreInTurn form turns
 
--- texts are a recording of these events, and a rest of them is left out or not
+-- texts are a recording of these events, and a rest of them is left out or not. All texts have the same header
 pub record IsRecording (until : Until) (texts : List (List ℕ)) (has_rest : Bool) (events : List Event) : Type 0 where
   pub earlier : List (List (List ℕ))
   pub last : List (List ℕ)
   pub rest : List ℕ
   pub cut : AreCut until texts earlier last rest
-  pub say : AllSay earlier last events
+  pub form : Form
+  pub turns : List Turn
+  pub say : AllSay form earlier last turns
+  pub said : events ≡ events_of turns
   pub left_out : IsTrue has_rest ↔ (rest ≢ [])
 
 -- a line may be a record
 abbrev pub IsShort : List ℕ → Type 0
 IsShort line = length line ≤ RECORD_LIMIT
 
--- texts are a recording of a history of at most as many events as a window may have, in lines that may be records
+-- texts are a recording without stamps, of a history of at most as many events as a window may have, in lines that may be records
 pub record CanBeFollowed (most : ℕ) (until : Until) (texts : List (List ℕ)) : Type 0 where
   pub earlier : List (List (List ℕ))
   pub last : List (List ℕ)
   pub rest : List ℕ
-  pub events : List Event
+  pub turns : List Turn
   pub cut : AreCut until texts earlier last rest
-  pub say : AllSay earlier last events
-  pub history : IsHistory events
-  pub few : length events ≤ most
+  pub say : AllSay Plain earlier last turns
+  pub history : IsHistory (events_of turns)
+  pub few : length turns ≤ most
   pub short_before : All (All IsShort) earlier
   pub short : All IsShort last
   pub short_rest : IsShort rest
@@ -79,7 +87,7 @@ pub record HasWritten (asked : FollowOptions) (texts : List (List ℕ)) (followe
   pub events : List Event
   pub recording : IsRecording asked.until texts followed.has_rest events
   pub told : List Told
-  pub windows : AreWindowsOf asked.least (recording.earlier ++ recording.last ∷ []) events told
+  pub windows : AreWindowsOf asked.least (places_of recording.turns) events told
   pub wrote : Appends old new (flat_map line_of told ++ sums_text told)
   pub few : followed.code ≡ None ↔ views_of told < asked.views
 

@@ -2,8 +2,8 @@
 use Rattle.std.specs.Prelude.{◌≡◌, ◌≢◌, ◌+◌, ◌-◌, ◌^◌, min, ℕ, Bool, true, false, if◌then◌else◌, List, length, count_by}
 use Rattle.snap_core.specs.declared.event.Event.{Event}
 use Rattle.snap_core.specs.declared.event.Event.TheVariants.{BeginUpdate, BeginView, EndUpdate, EndView}
-use Rattle.snap_follow.specs.declared.follow.Place.{Place}
-use Rattle.snap_follow.specs.declared.follow.Span.{Span}
+use Rattle.snap_follow.specs.declared.span.Place.{Place}
+use Rattle.snap_follow.specs.declared.span.Span.{Span}
 
 -- counts stop at 2 ^ 64 - 1
 abbrev pub stop : ℕ → ℕ

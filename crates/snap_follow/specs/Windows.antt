@@ -1,5 +1,5 @@
 -- The windows of a recording, and what is written about them.
-use Rattle.std.specs.Prelude.{◌≡◌, ◌≢◌, ◌≤◌, ◌<◌, ◌==◌, ◌++◌, ◌+◌, ◌-◌, ◌^◌, min, ℕ, Bool, true, false, if◌then◌else◌, List, [], ◌∷◌, length, Option, Some, None, codes, count_by, decimal, find, flat_map, slice_get, sum_by}
+use Rattle.std.specs.Prelude.{◌≡◌, ◌≢◌, ◌≤◌, ◌<◌, ◌==◌, ◌++◌, ◌+◌, ℕ, Bool, if◌then◌else◌, List, [], ◌∷◌, length, Option, Some, None, codes, count_by, decimal, find, flat_map, slice_get, sum_by}
 use Rattle.std.specs.Global.{Vec}
 use Rattle.snap_core.specs.declared.entry.Entry.{Entry}
 use Rattle.snap_core.specs.declared.event.Event.{Event}
@@ -11,7 +11,7 @@ use Rattle.snap_windows.specs.declared.judge.Verdict.{Verdict}
 use Rattle.snap_follow.specs.Misses.{AreMissed}
 use Rattle.snap_follow.specs.Places.{IsSpanIn}
 use Rattle.snap_follow.specs.Spans.{IsSpanOf, ends_view, stop}
-use Rattle.snap_follow.specs.declared.follow.Place.{Place}
+use Rattle.snap_follow.specs.declared.span.Place.{Place}
 use Rattle.snap_follow.specs.declared.follow.Window.{Window}
 
 -- a window that was written: its number, its events, what was found of it, and the names of the texts that were begun
@@ -35,19 +35,19 @@ HasEnded least before window = (least ≤ length window) × IsQuiet (before ++ w
 
 -- a window after others has their number and one more. It has the counts of its own events, the places of the first and the last of
 -- them, what their views miss, and the verdict on them from what the others left
-pub record IsToldAfter (least : ℕ) (texts : List (List (List ℕ))) (front : List Told) (t : Told) : Type 0 where
+pub record IsToldAfter (least : ℕ) (stands : List Place) (front : List Told) (t : Told) : Type 0 where
   pub number : t.number ≡ stop (length front + 1)
   pub span : IsSpanOf t.window.span t.events
-  pub places : IsSpanIn t.window.span texts (length (events_of front)) (length t.events)
-  pub missed : AreMissed texts (events_of front) t.events t.window.span.missed
+  pub places : IsSpanIn t.window.span stands (length (events_of front)) (length t.events)
+  pub missed : AreMissed stands (events_of front) t.events t.window.span.missed
   pub verdict : IsVerdict t.window.verdict (events_of front) t.events
   pub first : EndsFirst least (events_of front) t.events
   pub some : 0 < least → t.events ≢ []
 
--- windows are those of these events, which the texts say: they have all of them, and each but the last has ended
-pub record AreWindowsOf (least : ℕ) (texts : List (List (List ℕ))) (events : List Event) (told : List Told) : Type 0 where
+-- windows are those of these events, which stand at these places: they have all of them, and each but the last has ended
+pub record AreWindowsOf (least : ℕ) (places : List Place) (events : List Event) (told : List Told) : Type 0 where
   pub all : events_of told ≡ events
-  pub each : (front behind : List Told) (t : Told) → told ≡ front ++ t ∷ behind → IsToldAfter least texts front t
+  pub each : (front behind : List Told) (t : Told) → told ≡ front ++ t ∷ behind → IsToldAfter least places front t
   pub ended : (front behind : List Told) (t : Told) → told ≡ front ++ t ∷ behind → behind ≢ [] → HasEnded least (events_of front) t.events
 
 -- The line of a window.
@@ -58,7 +58,7 @@ name_text (Some name) = codes " of " ++ shown name.items
 
 -- the number of a record, and the name of its text if that has one
 abbrev pub place_text : List (Vec ℕ) → Place → List ℕ
-place_text names place = decimal place.record ++ name_text (slice_get names place.text)
+place_text names place = decimal place.number ++ name_text (slice_get names place.text)
 
 -- what a view of a window misses, and the record that ends the view
 abbrev pub missed_text : List (Vec ℕ) → Option (Entry × Place) → List ℕ

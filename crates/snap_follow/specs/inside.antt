@@ -2,9 +2,11 @@
 pub mod Counts
 pub mod Courses
 pub mod Folders
+pub mod Headers
 pub mod Quotes
 pub mod Refusals
 pub mod Runs
 pub mod Statuses
 pub mod Stops
 pub mod Sums
+pub mod Waits

@@ -4,8 +4,9 @@ ghost use Rattle.snap_follow.specs.Bytes.{AreWholeLines};
 ghost use Rattle.snap_follow.specs.Windows.{Told, sums_text};
 ghost use Rattle.snap_follow.specs.inside.Sums.{AddsLast, AddsWindow, AreSums, HasAnswered};
 
-use crate::follow::{Place, Window};
+use crate::follow::Window;
 use crate::lines::{Lines, put_failure, put_refusal, put_window};
+use crate::span::Place;
 use crate::sums::{Kind, Sums};
 use snap_text::TextFault;
 use std::alloc::{AllocError, Global};
@@ -85,13 +86,23 @@ impl Answers {
         self.add_window(window)
     }
 
-    /// Adds the line of a window that is refused at a record, and counts it.
-    pub(crate) fn add_refusal(&mut self, place: Place, fault: TextFault) -> Result<(), AllocError> {
+    // Adds the line of a window that is refused at a record for this word, and counts it.
+    fn add_refused(&mut self, place: Place, word: &str) -> Result<(), AllocError> {
         self.made.clear();
-        put_refusal(&mut self.made, self.sums.next(), place, fault, &self.names)?;
+        put_refusal(&mut self.made, self.sums.next(), place, word, &self.names)?;
         self.lines.add(&self.made)?;
         self.sums.add(Kind::Refused);
         Ok(())
+    }
+
+    /// Adds the line of a window that is refused at a record, and counts it.
+    pub(crate) fn add_refusal(&mut self, place: Place, fault: TextFault) -> Result<(), AllocError> {
+        self.add_refused(place, fault.word())
+    }
+
+    /// Adds the line of a window that is refused at a record that comes too late, and counts it.
+    pub(crate) fn add_late(&mut self, place: Place) -> Result<(), AllocError> {
+        self.add_refused(place, "late")
     }
 
     /// Adds the line of a window that can't be judged, and counts it.

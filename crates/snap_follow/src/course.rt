@@ -1,8 +1,8 @@
 //! The course of a recording that is followed: its bytes are cut into lines, and its windows are answered.
-ghost use Rattle.std.specs.Prelude.{◌≡◌, ◌≢◌, ◌↔◌, ◌⊎◌, ◌++◌, ◌∷◌, [], ℕ, List, false, true, IfOk, IsTrue, OnOk};
+ghost use Rattle.std.specs.Prelude.{◌≡◌, ◌≢◌, ◌↔◌, ◌⊎◌, ◌++◌, ◌∷◌, [], ℕ, List, drop, false, true, IfOk, IsTrue, OnOk};
 ghost use Rattle.snap_core.specs.declared.event.Event.{Event};
 ghost use Rattle.snap_follow.specs.Followed.{HasRead, IsStatusOf, StopsAt};
-ghost use Rattle.snap_follow.specs.inside.Courses.{EndsBytes, HasFollowed, HasJudged, HasNoneSoFar, IsBegun, IsTooLong, StopsIn, StopsLast, TakesBytes, TakesLast, TakesLine};
+ghost use Rattle.snap_follow.specs.inside.Courses.{EndsBytes, EndsWindow, HasFollowed, HasJudged, HasNoneSoFar, HasWaiting, IsBegun, IsTooLong, StopsIn, StopsLast, TakesBytes, TakesLast, TakesLine, TakesMore};
 ghost use Rattle.snap_follow.specs.inside.Refusals.{IsRefusal};
 ghost use Rattle.snap_follow.specs.inside.Sums.{HasToldAll};
 
@@ -29,11 +29,11 @@ pub(crate) struct Course {
 
 impl Course {
     /// A recording of which nothing was read.
-    pub(crate) fn new(alloc: Global, least: u32, most: Limit) -> Course
+    pub(crate) fn new(alloc: Global, least: u32, most: Limit, late: u32) -> Course
         ensures { HasFollowed result [] least most.events [] [] [] }
     {
         Course {
-            follow: Follow::new(alloc, least, most),
+            follow: Follow::new(alloc, least, most, late),
             answers: Answers::new(alloc),
             rest: Vec::new(alloc),
         }
@@ -53,8 +53,21 @@ impl Course {
     {
         match ended {
             Ended::Refused { place, fault } => self.answers.add_refusal(place, fault),
+            Ended::Late { place } => self.answers.add_late(place),
             Ended::Memory => Err(AllocError),
         }
+    }
+
+    // Ends the window at hand and answers it, if one may end here.
+    fn end_window(&mut self, alloc: Global) -> Result<(), AllocError>
+        ensures rest { self.new.rest ≡ self.old.rest }
+        ensures waits { self.new.follow.waiting ≡ self.old.follow.waiting }
+        ensures ended { OnOk result (EndsWindow self.old self.new) }
+    {
+        if let Some(window) = self.follow.cut(alloc)? {
+            self.answers.add_window(&window)?;
+        }
+        Ok(())
     }
 
     // Takes a line, and ends a window if one may end there. Answers whether the recording is followed further.
@@ -67,8 +80,37 @@ impl Course {
             self.refuse(ended)?;
             return Ok(false);
         }
-        if let Some(window) = self.follow.cut(alloc)? {
-            self.answers.add_window(&window)?;
+        self.end_window(alloc)?;
+        Ok(true)
+    }
+
+    // Takes the first of the records that wait, if one waits, and ends a window if one may end there. Answers whether the recording is
+    // followed further.
+    fn take_first(&mut self, alloc: Global) -> Result<bool, AllocError>
+        ensures rest { self.new.rest ≡ self.old.rest }
+        ensures taken { IfOk result (λ goes_on. goes_on ≡ true → TakesMore self.old self.new) }
+        ensures fewer { IfOk result (λ goes_on. goes_on ≡ true → self.new.follow.waiting.turns.items ≡ drop 1 self.old.follow.waiting.turns.items) }
+        ensures refused { IfOk result (λ goes_on. goes_on ≡ false → HasWaiting self.old.follow) }
+    {
+        if let Err(ended) = self.follow.take_waiting(alloc) {
+            self.refuse(ended)?;
+            return Ok(false);
+        }
+        self.end_window(alloc)?;
+        Ok(true)
+    }
+
+    /// Takes all records that wait, in the order of their stamps. Answers whether the recording is followed further.
+    pub(crate) fn take_waiting(&mut self, alloc: Global) -> Result<bool, AllocError>
+        ensures rest { self.new.rest ≡ self.old.rest }
+        ensures taken { IfOk result (λ goes_on. goes_on ≡ true → TakesMore self.old self.new) }
+        ensures all { IfOk result (λ goes_on. goes_on ≡ true → self.new.follow.waiting.turns.items ≡ []) }
+        ensures refused { IfOk result (λ goes_on. goes_on ≡ false → HasWaiting self.old.follow) }
+    {
+        'turns: while self.follow.has_waiting() {
+            if !self.take_first(alloc)? {
+                return Ok(false);
+            }
         }
         Ok(true)
     }
@@ -146,6 +188,9 @@ impl Course {
         if !self.take_last(alloc)? {
             return Ok(false);
         }
+        if !self.take_waiting(alloc)? {
+            return Ok(false);
+        }
         if let Err(ended) = self.follow.end_text() {
             self.refuse(ended)?;
             return Ok(false);
@@ -161,7 +206,7 @@ impl Course {
         ensures refused { IfOk result (λ goes_on. goes_on ≡ false → HasNoneSoFar self.old.follow) }
     {
         let last = self.follow.place();
-        if last.text > 0 || last.record > 0 {
+        if last.text > 0 || last.number > 0 {
             return Ok(true);
         }
         let place = self.follow.next_place();
@@ -172,7 +217,7 @@ impl Course {
     /// Ends the recording, in which calls may be open. It answers the exit status of the whole.
     pub(crate) fn finish(self, alloc: Global) -> Result<(u8, Answers), AllocError>
         ensures status { IfOk result (λ x. (least most : ℕ) (texts : List (List (List ℕ))) (lines : List (List ℕ)) (events : List Event) → HasRead self.follow least most texts lines events → IsStatusOf events x.0) }
-        ensures told { IfOk result (λ x. (gone : List ℕ) (least most : ℕ) (texts : List (List (List ℕ))) (lines : List (List ℕ)) (events : List Event) → HasJudged self.follow self.answers gone least most texts lines events → HasToldAll x.1 gone least (texts ++ lines ∷ []) events) }
+        ensures told { IfOk result (λ x. (gone : List ℕ) (least most : ℕ) (texts : List (List (List ℕ))) (lines : List (List ℕ)) (events : List Event) (h : HasJudged self.follow self.answers gone least most texts lines events) → HasToldAll x.1 gone least h.read.places events) }
     {
         let Course {
             follow,

@@ -1,11 +1,12 @@
 //! A recording that is followed, line by line.
-ghost use Rattle.std.specs.Prelude.{◌≡◌, ◌≢◌, ◌≤◌, ◌<◌, ◌++◌, ◌∷◌, [], ◌↔◌, ℕ, List, None, IsTrue, IfErr, IfNone, IfOk, IfSome, OnErr, OnOk, false, length};
+ghost use Rattle.std.specs.Prelude.{◌≡◌, ◌≢◌, ◌≤◌, ◌<◌, ◌++◌, ◌∷◌, [], ◌↔◌, ℕ, List, None, Some, IsTrue, IfErr, IfNone, IfOk, IfSome, MatchOption, OnErr, OnOk, drop, false, true, length};
 ghost use Rattle.snap_core.specs.declared.event.Event.{Event};
 ghost use Rattle.snap_core.specs.Calls.{calls_of};
 ghost use Rattle.snap_core.specs.Events.{IsHistory};
 ghost use Rattle.snap_follow.specs.inside.Counts.{CountsOpen};
 ghost use Rattle.snap_follow.specs.inside.Refusals.{ended_by};
 ghost use Rattle.snap_follow.specs.declared.follow.Ended.TheVariants as ends;
+ghost use Rattle.snap_follow.specs.declared.form.Form.TheVariants as forms;
 ghost use Rattle.snap_core.specs.Orders.{IsAtomic};
 ghost use Rattle.snap_core.specs.Regular.{IsRegular};
 ghost use Rattle.snap_csv.specs.OneLine.{AnswersLine};
@@ -13,37 +14,20 @@ ghost use Rattle.snap_format.specs.Rows.{rows_of};
 ghost use Rattle.snap_theory.specs.Windows.{IsQuiet};
 ghost use Rattle.snap_windows.specs.Taken.{HasTaken};
 ghost use Rattle.snap_windows.specs.Verdicts.{IsVerdict};
-ghost use Rattle.snap_follow.specs.Misses.{MissesNext, first_missed as spec_first_missed};
-ghost use Rattle.snap_follow.specs.Spans.{HasOneMore, IsSpanOf, ends_view as spec_ends_view};
-ghost use Rattle.snap_follow.specs.Followed.{EndsText, HasNoRecord, HasRead, IsLack, IsNext, ReadsLine, RefusesLine};
+ghost use Rattle.snap_follow.specs.Misses.{MissesNext};
+ghost use Rattle.snap_follow.specs.Spans.{HasOneMore};
+ghost use Rattle.snap_follow.specs.Followed.{EndsText, HasNoRecord, HasRead, IsLack, IsLate, IsNext, ReadsLine, RefusesLine, RefusesStamp, RefusesStamped, TakesFirst, WaitsWithin};
+ghost use Rattle.snap_follow.specs.inside.Waits.{TakesTurn, WaitsAfter};
 
+use crate::form::{Form, agrees, header_of};
 use crate::quotes::unquote;
-use snap_core::{Entry, Event, EventRefusal, Limit};
-use snap_csv::{ReadRefusal, fault_for, is_header_line, read_line};
+use crate::span::{Place, Span};
+use crate::waiting::{Turn, Waiting};
+use snap_core::{Event, EventRefusal, Limit};
+use snap_csv::{ReadRefusal, fault_for, read_line, read_stamped_line};
 use snap_text::{Known, TextFault};
 use snap_windows::{Verdict, WindowJudge};
 use std::alloc::{AllocError, Global};
-
-/// The place of a record: the number of its text in the recording, from 0, and its own number in that text, from 1. The header is
-/// record 1.
-#[derive(Clone, Copy, Debug)]
-pub struct Place {
-    pub text: usize,
-    pub record: u64,
-}
-
-/// The events of a window.
-#[derive(Clone, Copy, Debug)]
-pub struct Span {
-    /// The numbers of its events and of its completed views.
-    pub events: u64,
-    pub views: u64,
-    /// The places of its first and of its last event.
-    pub first: Place,
-    pub last: Place,
-    /// An entry that was left before it, and the place at which the first view ends that shows neither that nor a later number.
-    pub missed: Option<(Entry, Place)>,
-}
 
 /// A window that has ended: what it is, from what the windows before it left.
 #[derive(Clone, Copy, Debug)]
@@ -57,6 +41,8 @@ pub struct Window {
 pub enum Ended {
     /// A record is not part of a history, or a window has no room for it.
     Refused { place: Place, fault: TextFault },
+    /// The stamp of a record is not above that of one that the judge was given.
+    Late { place: Place },
     /// Memory ran out.
     Memory,
 }
@@ -76,14 +62,39 @@ pub struct Follow {
     known: Known,
     // room for a line without its quotes
     bare: Vec<u8>,
-    // whether the header of the text at hand was read, and the record that was read last
+    // the header of the texts, once one was read; whether that of the text at hand was, and the record that was read last
+    form: Option<Form>,
     pub(crate) headed: bool,
     place: Place,
+    // the records that wait, the most that may, and the stamp that the judge was given last
+    waiting: Waiting,
+    late: u32,
+    given: Option<u64>,
     // the number of events from which on a window ends at a moment without an open call, and the number of open calls
     least: usize,
     open_calls: u64,
     // the window at hand
     span: Span,
+}
+
+// Whether a stamp is not above that which the judge was given last.
+fn is_late(given: Option<u64>, at: u64) -> bool
+    ensures { IsTrue result ↔ IsLate given at }
+{
+    match given {
+        Some(last) => at <= last,
+        None => false,
+    }
+}
+
+// Why a recording ends, if the judge has refused the event of the record at a place.
+fn ended_by_refusal(place: Place, refusal: EventRefusal) -> Ended
+    ensures { result ≡ ended_by place refusal }
+{
+    match fault_for(refusal) {
+        Some(fault) => Ended::Refused { place, fault },
+        None => Ended::Memory,
+    }
 }
 
 // The number of calls that are open after an event.
@@ -97,77 +108,23 @@ fn open_behind(before: u64, event: &Event) -> u64
     }
 }
 
-impl Span {
-    // A window without events, after a record.
-    fn behind(place: Place) -> Span
-        ensures none { IsSpanOf result [] }
-        ensures missed { result.missed ≡ None }
-    {
-        Span {
-            events: 0,
-            views: 0,
-            first: place,
-            last: place,
-            missed: None,
-        }
-    }
-
-    // The place of its first event, once one more has come at this place.
-    fn first_with(self, place: Place) -> Place
-        ensures { (self.events ≡ 0 → result ≡ place) × (self.events ≢ 0 → result ≡ self.first) }
-    {
-        if self.events == 0 { place } else { self.first }
-    }
-
-    // The window with one event more, which is at this place and misses this entry.
-    fn with(self, event: &Event, place: Place, missed: Option<Entry>) -> Span
-        ensures more { HasOneMore self event.now place result }
-        ensures missed { result.missed ≡ spec_first_missed self.missed missed place }
-    {
-        Span {
-            events: self.events.saturating_add(1),
-            views: self.views.saturating_add(u64::from(ends_view(event))),
-            first: self.first_with(place),
-            last: place,
-            missed: first_missed(self.missed, missed, place),
-        }
-    }
-}
-
-// What a view of a window misses first, once an event at a place misses this entry.
-fn first_missed(
-    before: Option<(Entry, Place)>,
-    missed: Option<Entry>,
-    place: Place,
-) -> Option<(Entry, Place)>
-    ensures { result ≡ spec_first_missed before missed place }
-{
-    match (before, missed) {
-        (None, Some(entry)) => Some((entry, place)),
-        _ => before,
-    }
-}
-
-// Whether an event completes a view.
-fn ends_view(event: &Event) -> bool
-    ensures { result ≡ spec_ends_view event.now }
-{
-    matches!(event, Event::EndView { .. })
-}
-
 impl Follow {
     /// A recording of which nothing was read. A window ends at the first moment without an open call from `least` events on. It has at
-    /// most as many events as the limit says.
-    pub fn new(alloc: Global, least: u32, most: Limit) -> Follow
+    /// most as many events as the limit says. At most `late` records with stamps wait.
+    pub fn new(alloc: Global, least: u32, most: Limit, late: u32) -> Follow
         ensures { HasRead result least most.events [] [] [] }
     {
-        let place = Place { text: 0, record: 0 };
+        let place = Place { text: 0, number: 0 };
         Follow {
             judge: WindowJudge::new(alloc, most),
             known: Known::new(alloc),
             bare: Vec::new(alloc),
+            form: None,
             headed: false,
             place,
+            waiting: Waiting::new(alloc),
+            late,
+            given: None,
             least: least as usize,
             open_calls: 0,
             span: Span::behind(place),
@@ -187,7 +144,7 @@ impl Follow {
     {
         Place {
             text: self.place.text,
-            record: self.place.record.saturating_add(1),
+            number: self.place.number.saturating_add(1),
         }
     }
 
@@ -201,18 +158,10 @@ impl Follow {
         }
     }
 
-    // The refusal of the record that was read last, if the judge has refused its event.
-    fn refused_event(&self, refusal: EventRefusal) -> Ended
-        ensures { result ≡ ended_by self.now.place refusal }
-    {
-        match fault_for(refusal) {
-            Some(fault) => self.refused(fault),
-            None => Ended::Memory,
-        }
-    }
-
     // The refusal of the next record.
-    fn refused_next(&mut self, fault: TextFault) -> Ended {
+    fn refused_next(&mut self, fault: TextFault) -> Ended
+        ensures { (self.new.waiting ≡ self.old.waiting) × (self.new.late ≡ self.old.late) }
+    {
         self.place = self.next_place();
         self.refused(fault)
     }
@@ -222,42 +171,69 @@ impl Follow {
         requires { self.old.headed ≡ false }
         ensures read { OnOk result (ReadsLine self.old self.new line.now) }
         ensures refused { IfErr result (λ why. RefusesLine self.old line.now why) }
+        ensures waits { (self.new.waiting ≡ self.old.waiting) × (self.new.late ≡ self.old.late) }
     {
-        let Some(is_header) = is_header_line(alloc, line)? else {
+        let Some(header) = header_of(alloc, line)? else {
             return Ok(());
         };
         self.place = self.next_place();
-        if !is_header {
+        let Some(form) = header else {
+            return Err(self.refused(TextFault::Header));
+        };
+        if !agrees(self.form, form) {
             return Err(self.refused(TextFault::Header));
         }
+        self.form = Some(form);
         self.headed = true;
         Ok(())
     }
 
-    // Takes the event of the record that was read last.
-    fn take_event(&mut self, alloc: Global, event: &Event) -> Result<(), Ended>
+    // Takes the event of the record at a place.
+    fn take_event(&mut self, alloc: Global, event: &Event, place: Place) -> Result<(), Ended>
         ensures taken { OnOk result ((before since : List Event) → HasTaken self.old.judge before since → HasTaken self.new.judge before (since ++ event.now ∷ [])) }
-        ensures headed { self.new.headed ≡ self.old.headed }
-        ensures place { self.new.place ≡ self.old.place }
+        ensures kept { (self.new.headed ≡ self.old.headed) × (self.new.form ≡ self.old.form) × (self.new.place ≡ self.old.place) × (self.new.waiting ≡ self.old.waiting) × (self.new.given ≡ self.old.given) × (self.new.late ≡ self.old.late) }
         ensures rule { (self.new.least ≡ self.old.least) × (self.new.judge.most ≡ self.old.judge.most) }
         ensures counted { OnOk result (CountsOpen self.old.open_calls event.now self.new.open_calls) }
-        ensures span { OnOk result (HasOneMore self.old.span event.now self.old.place self.new.span) }
-        ensures missed { OnOk result (MissesNext self.old.judge event.now self.old.span.missed self.old.place self.new.span.missed) }
+        ensures span { OnOk result (HasOneMore self.old.span event.now place self.new.span) }
+        ensures missed { OnOk result (MissesNext self.old.judge event.now self.old.span.missed place self.new.span.missed) }
         ensures refused { IfErr result (λ why. (before since : List Event) → HasTaken self.old.judge before since → IsHistory (before ++ (since ++ event.now ∷ [])) → IsLack self.old.judge since why) }
     {
         let missed = match self.judge.take(alloc, event) {
             Ok(missed) => missed,
-            Err(refusal) => return Err(self.refused_event(refusal)),
+            Err(refusal) => return Err(ended_by_refusal(place, refusal)),
         };
-        self.span = self.span.with(event, self.place, missed);
+        self.span = self.span.with(event, place, missed);
         self.open_calls = open_behind(self.open_calls, event);
         Ok(())
+    }
+
+    /// Whether a record waits.
+    pub fn has_waiting(&self) -> bool
+        ensures { IsTrue result ↔ (self.now.waiting.turns.items ≢ []) }
+    {
+        !self.waiting.is_empty()
+    }
+
+    /// Gives the record that waits with the least stamp to the judge, if one waits.
+    pub fn take_waiting(&mut self, alloc: Global) -> Result<(), Ended>
+        ensures taken { OnOk result (TakesFirst self.old self.new) }
+        ensures fewer { OnOk result (self.new.waiting.turns.items ≡ drop 1 self.old.waiting.turns.items) }
+        ensures late { self.new.late ≡ self.old.late }
+        ensures refused { OnErr result (self.old.waiting.turns.items ≢ []) }
+    {
+        let Some(turn) = self.waiting.take_first() else {
+            return Ok(());
+        };
+        self.given = Some(turn.at);
+        self.take_event(alloc, &turn.event, turn.place)
     }
 
     // The event of a line under the header. Quotes that no field needs are taken off first, since a reader of `csv` costs much more.
     fn read_event(&mut self, alloc: Global, line: &[u8]) -> Result<Option<Event>, ReadRefusal>
         ensures event { AnswersLine 0 (rows_of line.now) result }
-        ensures same { (self.new.judge ≡ self.old.judge) × (self.new.headed ≡ self.old.headed) × (self.new.least ≡ self.old.least) × (self.new.open_calls ≡ self.old.open_calls) × (self.new.place ≡ self.old.place) × (self.new.span ≡ self.old.span) }
+        ensures same { (self.new.judge ≡ self.old.judge) × (self.new.span ≡ self.old.span) × (self.new.least ≡ self.old.least) × (self.new.open_calls ≡ self.old.open_calls) }
+        ensures kept { (self.new.headed ≡ self.old.headed) × (self.new.form ≡ self.old.form) × (self.new.waiting ≡ self.old.waiting) × (self.new.given ≡ self.old.given) × (self.new.place ≡ self.old.place) }
+        ensures late { self.new.late ≡ self.old.late }
     {
         if unquote(line, &mut self.bare)? {
             return read_line(alloc, &mut self.known, &self.bare, 0);
@@ -265,18 +241,51 @@ impl Follow {
         read_line(alloc, &mut self.known, line, 0)
     }
 
-    /// Reads the next line of the text at hand. A line without a record says nothing. The first record is the header, and each other
-    /// one an event. After a refusal the recording is followed no further.
-    pub fn take_line(&mut self, alloc: Global, line: &[u8]) -> Result<(), Ended>
+    // Takes a line under a header with stamps. Its record waits. If more wait than may, that with the least stamp goes to the judge.
+    fn take_stamped(&mut self, alloc: Global, line: &[u8]) -> Result<(), Ended>
+        requires { (self.old.headed ≡ true) × (self.old.form ≡ Some forms.Stamped) }
         ensures read { OnOk result (ReadsLine self.old self.new line.now) }
         ensures refused { IfErr result (λ why. RefusesLine self.old line.now why) }
+        ensures waits { OnOk result (WaitsWithin self.old self.new) }
+        ensures stamped { IfErr result (RefusesStamped self.old line.now) }
     {
-        if line.is_empty() {
-            return Ok(());
+        let (at, event) = match read_stamped_line(alloc, &mut self.known, line, 0) {
+            Ok(None) => return Ok(()),
+            Ok(Some(found)) => found,
+            Err(ReadRefusal::Text { place: _, fault }) => return Err(self.refused_next(fault)),
+            Err(_) => return Err(Ended::Memory),
+        };
+        self.place = self.next_place();
+        self.take_turn(alloc, at, event)
+    }
+
+    // Takes the event of the record that was read last, by its stamp.
+    fn take_turn(&mut self, alloc: Global, at: u64, event: Event) -> Result<(), Ended>
+        ensures turn { OnOk result (TakesTurn self.old at event self.new) }
+        ensures waits { OnOk result (WaitsAfter self.old.late (length self.old.waiting.turns.items) (length self.new.waiting.turns.items)) }
+        ensures late { self.new.late ≡ self.old.late }
+        ensures refused { IfErr result (RefusesStamp self.old.given self.old.waiting.turns.items self.old.late at) }
+    {
+        let place = self.place;
+        if is_late(self.given, at) {
+            return Err(Ended::Late { place });
         }
-        if !self.headed {
-            return self.take_header(alloc, line);
+        if !self.waiting.add(Turn { at, place, event })? {
+            return Err(self.refused(TextFault::Repeated));
         }
+        if self.waiting.len() > self.late as usize {
+            self.take_waiting(alloc)?;
+        }
+        Ok(())
+    }
+
+    // Takes a line under a header without stamps.
+    fn take_plain(&mut self, alloc: Global, line: &[u8]) -> Result<(), Ended>
+        requires { (self.old.headed ≡ true) × (self.old.form ≢ Some forms.Stamped) }
+        ensures read { OnOk result (ReadsLine self.old self.new line.now) }
+        ensures refused { IfErr result (λ why. RefusesLine self.old line.now why) }
+        ensures waits { (self.new.waiting ≡ self.old.waiting) × (self.new.late ≡ self.old.late) }
+    {
         let event = match self.read_event(alloc, line) {
             Ok(None) => return Ok(()),
             Ok(Some(event)) => event,
@@ -284,11 +293,33 @@ impl Follow {
             Err(_) => return Err(Ended::Memory),
         };
         self.place = self.next_place();
-        self.take_event(alloc, &event)
+        let place = self.place;
+        self.take_event(alloc, &event, place)
+    }
+
+    /// Reads the next line of the text at hand. A line without a record says nothing. The first record is the header, and each other
+    /// one an event. With stamps its event waits, and that of the least stamp comes if more wait than may. After a refusal the recording
+    /// is followed no further.
+    pub fn take_line(&mut self, alloc: Global, line: &[u8]) -> Result<(), Ended>
+        ensures read { OnOk result (ReadsLine self.old self.new line.now) }
+        ensures refused { IfErr result (λ why. RefusesLine self.old line.now why) }
+        ensures waits { OnOk result (WaitsWithin self.old self.new) }
+        ensures stamped { IfErr result (RefusesStamped self.old line.now) }
+    {
+        if line.is_empty() {
+            return Ok(());
+        }
+        if !self.headed {
+            return self.take_header(alloc, line);
+        }
+        match self.form {
+            Some(Form::Stamped) => self.take_stamped(alloc, line),
+            _ => self.take_plain(alloc, line),
+        }
     }
 
     /// Goes on to the next text of the recording, whose first record is a header too. Numbers go on, and calls may be open. A text
-    /// without a header is refused.
+    /// without a header is refused. No record may wait.
     pub fn end_text(&mut self) -> Result<(), Ended>
         ensures ended { OnOk result (EndsText self.old self.new) }
         ensures refused { OnErr result (HasNoRecord self.old) }
@@ -299,7 +330,7 @@ impl Follow {
         self.headed = false;
         self.place = Place {
             text: self.place.text.saturating_add(1),
-            record: 0,
+            number: 0,
         };
         Ok(())
     }
@@ -309,9 +340,10 @@ impl Follow {
         ensures same { OnOk result ((least most : ℕ) (texts : List (List (List ℕ))) (lines : List (List ℕ)) (events : List Event) → HasRead self.old least most texts lines events → HasRead self.new least most texts lines events) }
         ensures window { IfOk result (λ found. IfSome found (λ window. (least most : ℕ) (texts : List (List (List ℕ))) (lines : List (List ℕ)) (events : List Event) (h : HasRead self.old least most texts lines events) → IsVerdict window.verdict h.before h.since)) }
         ensures enough { IfOk result (λ found. IfSome found (λ window. (least most : ℕ) (texts : List (List (List ℕ))) (lines : List (List ℕ)) (events : List Event) (h : HasRead self.old least most texts lines events) → least ≤ length h.since)) }
-        ensures begun { IfOk result (λ found. IfSome found (λ window. (least most : ℕ) (texts : List (List (List ℕ))) (lines : List (List ℕ)) (events : List Event) (h : HasRead self.old least most texts lines events) → (n : HasRead self.new least most texts lines events) × (n.before ≡ h.before ++ h.since) × (n.since ≡ []))) }
+        ensures begun { IfOk result (λ found. IfSome found (λ window. (least most : ℕ) (texts : List (List (List ℕ))) (lines : List (List ℕ)) (events : List Event) (h : HasRead self.old least most texts lines events) → (n : HasRead self.new least most texts lines events) × (n.before ≡ h.before ++ h.since) × (n.since ≡ []) × (n.places ≡ h.places))) }
         ensures span { IfOk result (λ found. IfSome found (λ window. window.span ≡ self.old.span)) }
         ensures kept { IfOk result (λ found. IfNone found (self.new ≡ self.old)) }
+        ensures waits { self.new.waiting ≡ self.old.waiting }
         ensures ends { IfOk result (λ found. IfNone found ((least most : ℕ) (texts : List (List (List ℕ))) (lines : List (List ℕ)) (events : List Event) (h : HasRead self.old least most texts lines events) → IsQuiet events → length h.since < least)) }
     {
         if self.open_calls > 0 || self.judge.len() < self.least {

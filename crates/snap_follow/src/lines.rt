@@ -3,12 +3,12 @@ ghost use Rattle.std.specs.Prelude.{◌≡◌, ◌++◌, [], OnOk};
 ghost use Rattle.snap_follow.specs.Bytes.{AreWholeLines};
 ghost use Rattle.snap_follow.specs.Windows.{missed_text, place_text, window_text};
 
-use crate::follow::{Place, Window};
+use crate::follow::Window;
+use crate::span::Place;
 use crate::sums::Kind;
 use snap_core::Entry;
 use snap_names::put_shown;
 use snap_report::{put_entry, put_number};
-use snap_text::TextFault;
 use std::alloc::{AllocError, Global};
 use std::marker::Model;
 
@@ -70,7 +70,7 @@ fn put_place(
 ) -> Result<(), AllocError>
     ensures { OnOk result (out.new.items ≡ out.old.items ++ text.now ++ place_text names.now place) }
 {
-    put_number(out, text, place.record)?;
+    put_number(out, text, place.number)?;
     match names.get(place.text) {
         Some(name) => {
             out.extend_from_slice(b" of ")?;
@@ -117,12 +117,12 @@ pub(crate) fn put_window(
     Ok(out.push(b'\n')?)
 }
 
-/// Adds the line of a window of this number that is refused at a record.
+/// Adds the line of a window of this number that is refused at a record, and the word that says why.
 pub(crate) fn put_refusal(
     out: &mut Vec<u8>,
     number: u64,
     place: Place,
-    fault: TextFault,
+    word: &str,
     names: &[Vec<u8>],
 ) -> Result<(), AllocError>
     ensures { OnOk result (AreWholeLines out.new.items) }
@@ -130,7 +130,7 @@ pub(crate) fn put_refusal(
     put_number(out, b"window ", number)?;
     put_place(out, b" refused record ", place, names)?;
     out.extend_from_slice(b": ")?;
-    out.extend_from_slice(fault.word().as_bytes())?;
+    out.extend_from_slice(word.as_bytes())?;
     Ok(out.push(b'\n')?)
 }
 

@@ -203,12 +203,21 @@ fn end_last(alloc: Global, course: &mut Course, until: Until) -> Result<bool, Al
     }
 }
 
+// Ends the last text, and takes all records that wait. Answers whether the recording is followed further.
+fn end_turns(alloc: Global, course: &mut Course, until: Until) -> Result<bool, AllocError>
+    ensures ended { IfOk result (λ goes_on. goes_on ≡ true → EndsLast until course.old course.new) }
+    ensures all { IfOk result (λ goes_on. goes_on ≡ true → course.new.follow.waiting.turns.items ≡ []) }
+    ensures refused { IfOk result (λ goes_on. goes_on ≡ false → StopsEnd until course.old) }
+{
+    Ok(end_last(alloc, course, until)? && course.take_waiting(alloc)?)
+}
+
 // Ends the course. Answers whether the recording has a record and is not refused.
 fn end_course(alloc: Global, course: &mut Course, until: Until) -> Result<bool, AllocError>
     ensures ended { IfOk result (λ goes_on. goes_on ≡ true → EndsAll until course.old course.new) }
     ensures refused { IfOk result (λ goes_on. goes_on ≡ false → StopsEnd until course.old) }
 {
-    Ok(end_last(alloc, course, until)? && course.check_begun()?)
+    Ok(end_turns(alloc, course, until)? && course.check_begun()?)
 }
 
 // Ends the reading. If what has ended is whole, its last line needs no end.

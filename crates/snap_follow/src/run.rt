@@ -50,6 +50,8 @@ pub struct FollowOptions {
     pub least: u32,
     /// The most events that a window may have.
     pub most: Limit,
+    /// The most records with stamps that wait for others. A record may come up to this many records late.
+    pub late: u32,
     /// How long it is followed.
     pub until: Until,
     /// The number of completed views that all windows together must have.
@@ -121,8 +123,8 @@ fn end_whole<W: Write>(
     ensures lost { IfOk result (λ followed. followed.lost ≡ None) }
     ensures rest { IfOk result (λ followed. IsTrue followed.has_rest ↔ (course.rest.items ≢ [])) }
     ensures code { IfOk result (λ followed. IfSome followed.code (λ code. (least most : ℕ) (texts : List (List (List ℕ))) (lines : List (List ℕ)) (events : List Event) → HasRead course.follow least most texts lines events → IsStatusOf events code)) }
-    ensures told { IfOk result (λ followed. (gone : List ℕ) (least most : ℕ) (texts : List (List (List ℕ))) (lines : List (List ℕ)) (events : List Event) → HasJudged course.follow course.answers gone least most texts lines events
-        → TellsRest (W.contents (inner_of writer.old)) (W.contents (inner_of writer.new)) gone least (texts ++ lines ∷ []) events views followed.code) }
+    ensures told { IfOk result (λ followed. (gone : List ℕ) (least most : ℕ) (texts : List (List (List ℕ))) (lines : List (List ℕ)) (events : List Event) (h : HasJudged course.follow course.answers gone least most texts lines events)
+        → TellsRest (W.contents (inner_of writer.old)) (W.contents (inner_of writer.new)) gone least h.read.places events views followed.code) }
     ensures wrote { Leaves W.contents writer.old writer.new result }
     ensures tells { IfErr result (λ fault. fault ≢ faults.NoText) }
 {
@@ -188,7 +190,7 @@ pub fn follow_run<Rt: Wait, T: Texts, W: Write, C: Clock>(
     ensures looked { IfErr result (λ fault. fault ≡ faults.NoText → AreNone T.count T.waits T.looked texts.old texts.new) }
     ensures wrote { Leaves W.contents writer.old writer.new result }
 {
-    let mut course = Course::new(alloc, asked.least, asked.most);
+    let mut course = Course::new(alloc, asked.least, asked.most, asked.late);
     match read_all(rt, alloc, texts, writer, clock, &mut course, asked.until) {
         Ok(()) => end_whole(alloc, course, writer, asked.views),
         Err(stop) => end_early(&mut course.answers, writer, stop),

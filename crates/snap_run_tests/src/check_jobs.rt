@@ -13,8 +13,8 @@ enum Asked {
     Judged(u32, u32, bool, u32, Format, usize),
     // whether it asks for sums and for no line of progress, and when its verdicts have colours
     Shown(bool, bool, Color),
-    // that it goes by windows, from how many events on they end, and after how many idle seconds it ends
-    Followed(u32, u32),
+    // that it goes by windows, from how many events on they end, after how many idle seconds it ends, and how many records may wait
+    Followed(u32, u32, u32),
 }
 
 // Lines, and what is compared of the check that each asks for.
@@ -97,21 +97,32 @@ const CHECKS: &[(&str, Asked)] = &[
         "snapjudge check --color auto --quiet",
         Shown(false, false, Color::Auto),
     ),
-    ("snapjudge check --follow", Followed(1000, 0)),
-    ("snapjudge check --follow --events 1999", Followed(1000, 0)),
-    ("snapjudge check --events 500 --follow", Followed(250, 0)),
-    ("snapjudge check --follow --events 1", Followed(1, 0)),
+    ("snapjudge check --follow", Followed(1000, 0, 1000)),
+    (
+        "snapjudge check --follow --events 1999",
+        Followed(1000, 0, 1000),
+    ),
+    (
+        "snapjudge check --events 500 --follow",
+        Followed(250, 0, 1000),
+    ),
+    ("snapjudge check --follow --events 1", Followed(1, 0, 1000)),
     (
         "snapjudge check --window 1 --follow --idle=4294967295",
-        Followed(1, 4294967295),
+        Followed(1, 4294967295, 1000),
     ),
     (
         "snapjudge check --follow --events 500 --window=500 --idle 5 --views 3",
-        Followed(500, 5),
+        Followed(500, 5, 1000),
+    ),
+    ("snapjudge check --late 0 --follow", Followed(1000, 0, 0)),
+    (
+        "snapjudge check --follow --late=1048576",
+        Followed(1000, 0, 1048576),
     ),
     (
         "snapjudge check --events 1048576 --window 1048576 --follow",
-        Followed(1048576, 0),
+        Followed(1048576, 0, 1000),
     ),
 ];
 
@@ -138,7 +149,9 @@ fn is_asked(cutting: Cutting, limit: Limit, options: Options, asked: Asked) -> b
 // Whether a recording that is followed with such windows is this one.
 fn is_followed(windows: Windows, asked: Asked) -> bool {
     match asked {
-        Followed(least, idle) => windows.least == least && windows.idle == idle,
+        Followed(least, idle, late) => {
+            windows.least == least && windows.idle == idle && windows.late == late
+        }
         _ => false,
     }
 }

@@ -9,11 +9,12 @@ use std::io::{Read, Write};
 use std::test::Fail;
 use std::thread::Threads;
 
-// How the explanation of a text ends, and what it writes.
-fn explained<Rt: Threads + Sync>(
+// How the explanation of a text by this many faults of a kind ends, and what it writes.
+fn explained_by<Rt: Threads + Sync>(
     rt: &Rt,
     alloc: Global,
     text: &[u8],
+    faults: u32,
 ) -> Result<(&'static str, String), Fail> {
     let mut reader = Counted::new(text);
     let mut writer = Counted::new(Vec::new(alloc));
@@ -23,9 +24,49 @@ fn explained<Rt: Threads + Sync>(
         &mut reader,
         &mut writer,
         Entries::OfFault,
+        faults,
         Limit::usual(),
     );
     written(alloc, answer, writer)
+}
+
+// How the explanation of a text ends, and what it writes.
+fn explained<Rt: Threads + Sync>(
+    rt: &Rt,
+    alloc: Global,
+    text: &[u8],
+) -> Result<(&'static str, String), Fail> {
+    explained_by(rt, alloc, text, 1)
+}
+
+// The sentence and the calls of a view of nothing, after the update in records 2 and 3.
+const FIRST: &str =
+    "proximity: view 2 shows 0:0, though update 0:1 had ended before the view began\n\
+    \x20 call 2 of process 1, records 4 and 5: view\n\
+    \x20 call 1 of process 0, records 2 and 3: update 0:1:7\n";
+
+const SECOND: &str =
+    "proximity: view 3 shows 0:0, though update 0:1 had ended before the view began\n\
+    \x20 call 3 of process 1, records 6 and 7: view\n\
+    \x20 call 1 of process 0, records 2 and 3: update 0:1:7\n";
+
+#[test]
+fn each_view_with_a_fault_of_a_kind_is_told_up_to_a_number(rt: HostRuntime) -> Result<(), Fail> {
+    let alloc = rt.alloc();
+    let text = history(
+        alloc,
+        "begin,0,update,0:1:7\nend,0,update,\nbegin,1,view,\nend,1,view,\nbegin,1,view,\nend,1,view,\n",
+    )?;
+    let first = format!(in alloc; "not regular\n{FIRST}")?;
+    let both = format!(in alloc; "not regular\n{FIRST}{SECOND}")?;
+    same(
+        explained_by(&rt, alloc, text.as_bytes(), 1)?,
+        ("irregular", first),
+    )?;
+    same(
+        explained_by(&rt, alloc, text.as_bytes(), 1000)?,
+        ("irregular", both),
+    )
 }
 
 #[test]
@@ -126,6 +167,7 @@ fn explain_over<Rt: Threads + Sync, R: Read + Drop, W: Write + Drop>(
         &mut reader,
         &mut writer,
         Entries::OfFault,
+        1,
         Limit::usual(),
     ));
     (end, reader.failures(), writer.failures())

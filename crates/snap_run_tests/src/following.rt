@@ -49,6 +49,7 @@ pub(crate) fn options(
     Ok(FollowOptions {
         least,
         most,
+        late: 1000,
         until,
         views,
     })
@@ -205,7 +206,7 @@ const RECORDINGS: &[Recording] = &[
         "windows 1 events 0 views 0\natomic 0\nonly-regular 0\nnot-regular 0\nrefused 1 first 1\nfailed 0\n",
     ),
     (
-        "at,event,process,op,data\n1,begin,0,view,\n",
+        "at,event,process,op\n1,begin,0,view\n",
         1,
         100,
         3,
@@ -231,7 +232,7 @@ const RECORDINGS: &[Recording] = &[
 ];
 
 // Following a reader's text ends so, in a word and a status, and writes these lines.
-fn expect_followed<Rt: Wait, R: Read + Drop>(
+pub(crate) fn expect_followed<Rt: Wait, R: Read + Drop>(
     rt: &Rt,
     alloc: Global,
     reader: R,

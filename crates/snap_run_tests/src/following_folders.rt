@@ -232,6 +232,56 @@ const RECORDINGS: &[Recording] = &[
         Some(0),
         "window 1 events 2 atomic from 2 of t/1.csv to 3 of t/1.csv\nwindows 1 events 2 views 0\n",
     ),
+    // with stamps each text is judged in their order, and none waits at its end
+    (
+        &[
+            (
+                "1.csv",
+                Some(
+                    "at,event,process,op,data\n3,begin,1,view,\n2,end,0,update,\n1,begin,0,update,0:1:7\n",
+                ),
+            ),
+            (
+                "2.csv",
+                Some("at,event,process,op,data\n9,end,1,view,0:1:7"),
+            ),
+        ],
+        1,
+        b"",
+        "with a rest",
+        Some(0),
+        "window 1 events 2 atomic from 4 of t/1.csv to 3 of t/1.csv\nwindow 2 events 1 atomic from 2 of t/1.csv to 2 of t/1.csv\n\
+         windows 2 events 3 views 0\n",
+    ),
+    // a stamp that is not above those of the text before
+    (
+        &[
+            (
+                "1.csv",
+                Some("at,event,process,op,data\n3,end,1,view,\n2,begin,1,view,\n"),
+            ),
+            ("2.csv", Some("at,event,process,op,data\n3,begin,1,view,\n")),
+        ],
+        1,
+        b"",
+        "whole",
+        Some(3),
+        "window 1 events 2 atomic from 3 of t/1.csv to 2 of t/1.csv\nwindow 2 refused record 2 of t/2.csv: late\n\
+         windows 2 events 2 views 1\n",
+    ),
+    // another header than the text before
+    (
+        &[
+            ("1.csv", Some(FIRST)),
+            ("2.csv", Some("at,event,process,op,data\n3,begin,1,view,\n")),
+        ],
+        1,
+        b"",
+        "whole",
+        Some(3),
+        "window 1 events 2 atomic from 2 of t/1.csv to 3 of t/1.csv\nwindow 2 refused record 1 of t/2.csv: header\n\
+         windows 2 events 2 views 0\n",
+    ),
     (&[], 1, b"", "no text", None, ""),
 ];
 

@@ -1,6 +1,6 @@
 //! The jobs that words ask for, and the files that they name.
 use snap_core::Limit;
-use snap_words::{Form, Job, Scheme, job_of};
+use snap_words::{Form, Job, Scheme, Shrunk, job_of};
 use std::alloc::{AllocError, Global};
 use std::test::Fail;
 
@@ -86,11 +86,19 @@ const LINES_WITH_FILES: &[(&str, &[&str])] = &[
     ("snapjudge stats --events 1048576 a.csv", &["a.csv"]),
     ("snapjudge shrink --draw a.csv", &["a.csv"]),
     ("snapjudge explain - --draw", &["-"]),
+    ("snapjudge shrink --map a.csv", &["a.csv"]),
     ("snapjudge explain --all a.csv", &["a.csv"]),
+    ("snapjudge explain --faults 1000 a.csv", &["a.csv"]),
     ("snapjudge explain --draw --all -", &["-"]),
     ("snapjudge draw --light a.csv", &["a.csv"]),
     ("snapjudge draw --svg --light a.csv", &["a.csv"]),
     ("snapjudge draw --dark --svg -", &["-"]),
+    ("snapjudge draw --calls 2000 a.csv", &["a.csv"]),
+    (
+        "snapjudge draw --text --calls 12 --from 7 a.csv",
+        &["a.csv"],
+    ),
+    ("snapjudge draw --svg --around 7 -", &["-"]),
     ("snapjudge shrink --events 1048576 a.csv", &["a.csv"]),
     ("snapjudge explain --events 1048576 --draw -", &["-"]),
     ("snapjudge draw a.csv --text --events 1048576", &["a.csv"]),
@@ -137,18 +145,22 @@ fn is_its_command(job: &Job, line: &str) -> bool {
     match job {
         Job::Check { .. } => line.contains(" check") && !line.contains(" --follow"),
         Job::Follow { .. } => line.contains(" check") && line.contains(" --follow"),
-        Job::Shrink { drawn, limit, .. } => {
-            line.contains(" shrink") && is_drawn(line, *drawn, *limit)
+        Job::Shrink { shrunk, limit, .. } => {
+            line.contains(" shrink")
+                && is_drawn(line, *shrunk == Shrunk::Picture, *limit)
+                && (*shrunk == Shrunk::Map) == line.contains(" --map")
         }
         Job::Explain {
             drawn,
             whole,
+            faults,
             limit,
             ..
         } => {
             line.contains(" explain")
                 && is_drawn(line, *drawn, *limit)
                 && *whole == line.contains(" --all")
+                && (*faults == 1000) == line.contains(" --faults")
         }
         Job::Draw { form, limit, .. } => {
             line.contains(" draw")

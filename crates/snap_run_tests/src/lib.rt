@@ -23,6 +23,8 @@ mod jobs;
 #[cfg(test)]
 mod long_texts;
 #[cfg(test)]
+mod mapping;
+#[cfg(test)]
 mod names;
 #[cfg(test)]
 mod options;
@@ -40,5 +42,7 @@ mod reports;
 mod rounds;
 #[cfg(test)]
 mod shrinking;
+#[cfg(test)]
+mod stamped_following;
 #[cfg(test)]
 mod telling;

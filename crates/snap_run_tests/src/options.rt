@@ -1,9 +1,9 @@
 //! Checks that are quiet, or that ask for a number of completed views.
 use super::checks::{STALE_REPORT, STALE_VIEW, cutting, end_of, history, history_up_to, same};
 use snap_check::{CheckOptions, RunFault, SHARED_FROM, SHARED_PIECES, Status, check_run_with};
-use snap_core::{Counted, Limit, OpenGate};
+use snap_core::{Counted, Gate, Limit, OpenGate};
 use snap_files::FileOptions;
-use snap_testing::{Cup, Drip, Meeting};
+use snap_testing::{Cup, Drip, Held, Meeting};
 use snap_threads::Cutting;
 use std::alloc::Global;
 use std::io::{Read, Write};
@@ -212,22 +212,21 @@ fn limits_are_1_to_1048576(rt: HostRuntime) {
     }
 }
 
-// Whether the workers of the check of a text of this many bytes meet at a gate.
-fn meets<Rt: Threads + Sync>(
+// Judges a text of this many bytes, whose workers pass a gate.
+fn judge_past<Rt: Threads + Sync, G: Gate>(
     rt: &Rt,
     alloc: Global,
     options: CheckOptions,
     bytes: usize,
     cutting: Cutting,
-    gate: &Meeting,
-) -> Result<bool, Fail> {
+    gate: &G,
+) -> Result<(), Fail> {
     let text = history_up_to(alloc, STALE_VIEW, bytes)?;
     let mut reader = Counted::new(text.as_bytes());
     let mut writer = Counted::new(Vec::new(alloc));
     let answer = check_run_with(rt, alloc, &mut reader, &mut writer, cutting, gate, options);
     same(end_with(answer), "irregular")?;
-    same(str::from_utf8(&writer.into_inner())?, STALE_REPORT)?;
-    Ok(gate.was_held())
+    same(str::from_utf8(&writer.into_inner())?, STALE_REPORT)
 }
 
 // With these options the check of a text of this many bytes has `workers` workers, who meet at their first pieces.
@@ -239,8 +238,8 @@ fn expect_workers<Rt: Threads + Sync>(
     workers: u32,
 ) -> Result<(), Fail> {
     let gate = Meeting::of(workers, 0);
-    let cutting = cutting(1024, 2)?;
-    same(meets(rt, alloc, options, bytes, cutting, &gate)?, true)
+    judge_past(rt, alloc, options, bytes, cutting(1024, 2)?, &gate)?;
+    same(gate.was_held(), true)
 }
 
 // The options that the program chooses, if the number of pieces is left to it or not.
@@ -262,16 +261,37 @@ fn draws<Rt: Threads + Sync>(
     piece: u32,
 ) -> Result<bool, Fail> {
     let gate = Meeting::of(1, piece);
-    let cutting = cutting(8, 1)?;
-    meets(rt, alloc, chosen(finer), SHARED_FROM, cutting, &gate)
+    judge_past(rt, alloc, chosen(finer), SHARED_FROM, cutting(8, 1)?, &gate)?;
+    Ok(gate.was_held())
 }
 
 #[test]
-fn a_long_text_has_8_pieces_only_if_they_are_asked_for(rt: HostRuntime) -> Result<(), Fail> {
+fn one_worker_has_8_pieces_of_a_long_text_only_if_they_are_asked_for(
+    rt: HostRuntime,
+) -> Result<(), Fail> {
     let alloc = rt.alloc();
-    for (finer, pieces) in [(false, 8), (true, SHARED_PIECES)] {
+    for (finer, pieces) in [(false, 8), (true, 1)] {
         same(draws(&rt, alloc, finer, pieces - 1)?, true)?;
         same(draws(&rt, alloc, finer, pieces)?, false)?;
+    }
+    Ok(())
+}
+
+#[test]
+fn two_workers_share_more_pieces_unless_8_are_asked_for(rt: HostRuntime) -> Result<(), Fail> {
+    let alloc = rt.alloc();
+    for (finer, pieces) in [(false, 8), (true, SHARED_PIECES)] {
+        // one holds a piece until the other has drawn all the rest
+        let gate = Held::until(1, pieces - 2);
+        judge_past(
+            &rt,
+            alloc,
+            chosen(finer),
+            SHARED_FROM,
+            cutting(8, 2)?,
+            &gate,
+        )?;
+        same(gate.was_left(), true)?;
     }
     Ok(())
 }

@@ -72,6 +72,9 @@ const OTHER_LINES: &[&str] = &[
     "snapjudge check --idle",
     "snapjudge check --idle -1",
     "snapjudge check --idle 4294967296",
+    "snapjudge check --late",
+    "snapjudge check --follow --late -1",
+    "snapjudge check --follow --late 1048577",
     "snapjudge check --follow a.csv b.csv",
     "snapjudge check - -",
     "snapjudge check - --files-from -",
@@ -103,9 +106,23 @@ const OTHER_LINES: &[&str] = &[
     "snapjudge draw --text --light",
     "snapjudge draw --text --dark",
     "snapjudge draw --dark=yes",
+    "snapjudge draw --calls 0",
+    "snapjudge draw --calls 2001",
+    "snapjudge draw --text --calls 13",
+    "snapjudge draw --from 0",
+    "snapjudge draw --around 1048577",
+    "snapjudge draw --from 3 --around 3",
     "snapjudge draw --all",
     "snapjudge explain --all=yes",
     "snapjudge explain --dark",
+    "snapjudge explain --faults 0",
+    "snapjudge explain --faults 1001",
+    "snapjudge explain --faults",
+    "snapjudge explain --draw --faults 2",
+    "snapjudge explain --map",
+    "snapjudge shrink --map --draw",
+    "snapjudge shrink --map=yes",
+    "snapjudge shrink --faults 2",
     "snapjudge shrink --all",
     "snapjudge draw --text a.csv --svg",
     "snapjudge draw --draw",
@@ -204,12 +221,24 @@ fn a_number_beyond_the_limit_of_events_is_refused_as_the_parser_does(
 // Lines with options that do not go together, or with one that needs another, and what is said about them.
 const TOGETHER: &[(&str, &str)] = &[
     (
+        "snapjudge shrink --map --draw",
+        "error: the argument '--draw' cannot be used with '--map'\n",
+    ),
+    (
+        "snapjudge explain --faults 2 --draw",
+        "error: the argument '--draw' cannot be used with '--faults <N>'\n",
+    ),
+    (
         "snapjudge draw --text --svg",
         "error: the argument '--svg' cannot be used with '--text'\n",
     ),
     (
         "snapjudge draw --svg --dark --light",
         "error: the argument '--light' cannot be used with '--dark'\n",
+    ),
+    (
+        "snapjudge draw --around 3 --from 3",
+        "error: the argument '--from <CALL>' cannot be used with '--around <CALL>'\n",
     ),
     (
         "snapjudge draw --text --light",
@@ -298,6 +327,10 @@ const TOGETHER: &[(&str, &str)] = &[
     (
         "snapjudge check --idle=0",
         "error: the argument '--idle <SECONDS>' needs '--follow'\n",
+    ),
+    (
+        "snapjudge check --late 0",
+        "error: the argument '--late <N>' needs '--follow'\n",
     ),
 ];
 

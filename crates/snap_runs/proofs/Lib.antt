@@ -1,6 +1,8 @@
 pub mod Narrow
 pub mod Recordings
 pub mod Shrinking
+pub mod Mapping
+pub mod Tables
 pub mod Explaining
 pub mod Counted
 pub mod Telling

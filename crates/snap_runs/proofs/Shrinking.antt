@@ -1,5 +1,5 @@
 -- What a history is cut down to.
-use Rattle.std.proofs.Common.{◌≡◌, ◌≤◌, ◌↔◌, ℕ, true, false, length, List, Option, Some, None, refl, subst}
+use Rattle.std.proofs.Common.{◌≡◌, ◌≤◌, ◌↔◌, true, false, length, List, Option, Some, None, refl, subst}
 use Rattle.std.specs.Prelude.{IfSome, IsNone}
 use Rattle.snap_core.specs.Limited.{LimitedEvents}
 use Rattle.snap_core.specs.declared.event.Event.{Event}

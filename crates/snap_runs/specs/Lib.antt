@@ -1,4 +1,5 @@
 pub mod Shrinking
+pub mod Mapping
 pub mod Explaining
 pub mod Recordings
 pub mod Stats

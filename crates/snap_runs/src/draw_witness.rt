@@ -18,7 +18,7 @@ use std::io::{Read, Write};
 use std::thread::Threads;
 
 // The numbers of the records of this number of events, one after the other under the header.
-fn records_of(alloc: Global, count: usize) -> Result<Vec<u32>, AllocError>
+pub(crate) fn records_of(alloc: Global, count: usize) -> Result<Vec<u32>, AllocError>
     requires { count ≤ event_cap }
     ensures { IfOk result (λ records. records.items ≡ range_with_len 2 count) }
 {
@@ -34,7 +34,7 @@ fn picture_of<J: Judging, M: Markup>(
     bytes: usize,
 ) -> Result<Vec<u8>, AllocError>
     requires ready { J.ready }
-    ensures { IfOk result (λ text. IsDrawing M.calls (M.entries markup.now) M.writes history.now.events (range_with_len 2 (length history.now.events)) text.items) }
+    ensures { IfOk result (λ text. IsDrawing (M.draws markup.now) M.holds (M.entries markup.now) M.writes history.now.events (range_with_len 2 (length history.now.events)) text.items) }
 {
     let records = records_of(alloc, history.len())?;
     let (_, text) = drawn(judging, alloc, markup, history, &records, bytes)?;
@@ -51,7 +51,7 @@ pub fn draw_witness_input<J: Judging, R: Read, M: Markup>(
     limit: Limit,
 ) -> Result<(Status, Vec<u8>), RunFault>
     requires ready { J.ready }
-    ensures answer { JudgesBy (IsWitnessDrawn limit.events M.calls (M.entries markup.now) M.writes) (R.remaining (inner_of reader.old)) result }
+    ensures answer { JudgesBy (IsWitnessDrawn limit.events (M.draws markup.now) M.holds (M.entries markup.now) M.writes) (R.remaining (inner_of reader.old)) result }
     ensures counts { JudgeCounts (failures_in reader.old) (failures_in reader.new) result }
 {
     let mut room = Vec::new(alloc);
@@ -80,7 +80,7 @@ pub fn draw_witness_run<Rt: Threads + Sync, R: Read, W: Write, M: Markup>(
     writer: &mut Counted<W>,
     limit: Limit,
 ) -> Result<Status, RunFault>
-    ensures wrote { WroteBy (IsWitnessDrawn limit.events M.calls (M.entries markup.now) M.writes) (R.remaining (inner_of reader.old)) (W.contents (inner_of writer.old)) (W.contents (inner_of writer.new)) result }
+    ensures wrote { WroteBy (IsWitnessDrawn limit.events (M.draws markup.now) M.holds (M.entries markup.now) M.writes) (R.remaining (inner_of reader.old)) (W.contents (inner_of writer.old)) (W.contents (inner_of writer.new)) result }
     ensures counts { RunCounts (failures_in reader.old) (failures_in reader.new) (failures_in writer.old) (failures_in writer.new) result }
 {
     let (status, text) = draw_witness_input(&workers(rt), alloc, markup, reader, limit)?;

@@ -5,17 +5,20 @@
 mod draw;
 mod draw_witness;
 mod explain;
+mod map;
 mod markup;
 mod recording;
 mod rounds;
 mod shrink;
 mod stats;
+mod table;
 mod tell;
 mod test_case;
 
 pub use draw::{draw_input, draw_run};
 pub use draw_witness::{draw_witness_input, draw_witness_run};
 pub use explain::{explain_input, explain_run};
+pub use map::{map_input, map_run};
 pub use markup::{Explained, Lines, Markup, Page, Svg};
 pub use recording::{record_run, record_run_stamped};
 pub use rounds::{

@@ -2,31 +2,41 @@
 ghost use Rattle.std.specs.Prelude.{◌≡◌, ℕ, List, IfOk};
 ghost use Rattle.snap_core.specs.declared.event.Event.{Event};
 ghost use Rattle.snap_draw.specs.declared.shapes.Shapes.{Shapes};
-ghost use Rattle.snap_draw.specs.declared.window.TheConstants.{LINE_CALLS, PAGE_CALLS};
+ghost use Rattle.snap_draw.specs.declared.window.TheConstants.{MOST_CALLS};
+ghost use Rattle.snap_draw.specs.declared.window.Window.{Window};
+ghost use Rattle.snap_draw.specs.Window.{usual_lines};
 ghost use Rattle.snap_explain.specs.declared.view.Entries.{Entries};
 ghost use Rattle.snap_explain.specs.declared.view.Entries.TheVariants.{OfFault};
 ghost use Rattle.snap_runs.specs.Markups.{is_lines, is_page, is_svg};
 
 use snap_draw::{
-    LINE_CALLS, PAGE_CALLS, Picture, Scheme, explained_lines, page_of, svg_of, text_lines,
+    MOST_CALLS, Picture, Scheme, Window, explained_lines, page_of, svg_of, text_lines,
 };
 use snap_explain::Entries;
 use std::alloc::{AllocError, Global};
 
 /// A way to write a picture as text.
 pub trait Markup {
-    // the most calls that it draws of a history
-    ghost calls: { ℕ };
+    // which calls of a history it draws
+    ghost draws: { Self → Window };
+
+    // the most calls of a longer history that it holds in pieces
+    ghost holds: { ℕ };
 
     // which entries of the views of a fault its explanation lists
     ghost entries: { Self → Entries };
 
-    // what it may write of the events of a history, their records, its shapes, the numbers of its printed order, and its explanation
-    ghost writes: { List Event → List ℕ → Shapes → List ℕ → List ℕ → List ℕ → Type 0 };
+    // what it may write of the events of a history, their records, its shapes, those of its pieces, the numbers of its printed
+    // order, and its explanation
+    ghost writes: { List Event → List ℕ → Shapes → List Shapes → List ℕ → List ℕ → List ℕ → Type 0 };
 
-    /// The most calls that are drawn of a history.
-    fn call_limit(&self) -> usize
-        ensures { result ≡ calls };
+    /// Which calls of a history are drawn.
+    fn part(&self) -> Window
+        ensures { result ≡ draws self.now };
+
+    /// The most calls of a longer history that are held in pieces.
+    fn held(&self) -> usize
+        ensures { result ≡ holds };
 
     /// Which entries of the views of a fault its explanation lists.
     fn listed(&self) -> Entries
@@ -34,26 +44,31 @@ pub trait Markup {
 
     /// The text of a picture. The error is want of memory.
     fn text(&self, alloc: Global, picture: &Picture<'_, '_>) -> Result<Vec<u8>, AllocError>
-        ensures { IfOk result (λ text. writes picture.now.index.now picture.now.records.now picture.now.shapes.now picture.now.order.now picture.now.said.now text.items) };
+        ensures { IfOk result (λ text. writes picture.now.index.now picture.now.records.now picture.now.shapes.now picture.now.parts.now picture.now.order.now picture.now.said.now text.items) };
 }
 
-/// SVG alone, in the colours of a scheme.
+/// SVG alone, of a window, in the colours of a scheme.
 #[derive(Clone, Copy, Debug)]
 pub struct Svg {
     pub scheme: Scheme,
+    pub window: Window,
 }
 
-/// A page with the SVG in it, in the colours of a scheme. If none is given, it has those of the reader's system.
+/// A page with the SVG of a window in it, in the colours of a scheme. If none is given, it has those of the reader's system. Of a longer
+/// history it holds other calls too.
 #[derive(Clone, Copy, Debug)]
 pub struct Page {
     pub scheme: Option<Scheme>,
+    pub window: Window,
 }
 
-/// Lines of characters.
+/// Lines of characters, of a window.
 #[derive(Clone, Copy, Debug)]
-pub struct Lines;
+pub struct Lines {
+    pub window: Window,
+}
 
-/// The explanation, which lists these entries of the views of a fault, with lines of characters below it.
+/// The explanation, which lists these entries of the views of a fault, with the usual lines of characters below it.
 #[derive(Clone, Copy, Debug)]
 pub struct Explained {
     pub listed: Entries,
@@ -62,14 +77,20 @@ pub struct Explained {
 // only the end of their bytes is proved, and the rest is tested
 
 impl Markup for Svg {
-    ghost calls = { PAGE_CALLS };
+    ghost draws = { λ markup. markup.window };
+
+    ghost holds = { 0 };
 
     ghost entries = { λ _. OfFault };
 
     ghost writes = { is_svg };
 
-    fn call_limit(&self) -> usize {
-        PAGE_CALLS
+    fn part(&self) -> Window {
+        self.window
+    }
+
+    fn held(&self) -> usize {
+        0
     }
 
     fn listed(&self) -> Entries {
@@ -82,14 +103,20 @@ impl Markup for Svg {
 }
 
 impl Markup for Page {
-    ghost calls = { PAGE_CALLS };
+    ghost draws = { λ markup. markup.window };
+
+    ghost holds = { MOST_CALLS };
 
     ghost entries = { λ _. OfFault };
 
     ghost writes = { is_page };
 
-    fn call_limit(&self) -> usize {
-        PAGE_CALLS
+    fn part(&self) -> Window {
+        self.window
+    }
+
+    fn held(&self) -> usize {
+        MOST_CALLS
     }
 
     fn listed(&self) -> Entries {
@@ -102,14 +129,20 @@ impl Markup for Page {
 }
 
 impl Markup for Lines {
-    ghost calls = { LINE_CALLS };
+    ghost draws = { λ markup. markup.window };
+
+    ghost holds = { 0 };
 
     ghost entries = { λ _. OfFault };
 
     ghost writes = { is_lines };
 
-    fn call_limit(&self) -> usize {
-        LINE_CALLS
+    fn part(&self) -> Window {
+        self.window
+    }
+
+    fn held(&self) -> usize {
+        0
     }
 
     fn listed(&self) -> Entries {
@@ -122,14 +155,20 @@ impl Markup for Lines {
 }
 
 impl Markup for Explained {
-    ghost calls = { LINE_CALLS };
+    ghost draws = { λ _. usual_lines };
+
+    ghost holds = { 0 };
 
     ghost entries = { λ markup. markup.listed };
 
     ghost writes = { is_lines };
 
-    fn call_limit(&self) -> usize {
-        LINE_CALLS
+    fn part(&self) -> Window {
+        Window::usual_lines()
+    }
+
+    fn held(&self) -> usize {
+        0
     }
 
     fn listed(&self) -> Entries {

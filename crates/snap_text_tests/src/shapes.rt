@@ -1,5 +1,5 @@
 //! The shapes that are drawn for worked histories, against shapes worked out by hand.
-use snap_draw::{Bar, Kind, LINE_CALLS, Mark, Shapes, shapes_of};
+use snap_draw::{Bar, Kind, LINE_CALLS, Mark, Place, Shapes, Window, shapes_of};
 use snap_index::Index;
 use snap_tally::tally_and_chain_alone;
 use snap_testing::worked::{ATOMIC_RUN, MISSED_UPDATE, NEW_THEN_OLD, NOTHING, SEEN_PENDING};
@@ -82,7 +82,17 @@ const WORKED: &[(&[Step<'static>], usize, Known)] = &[
 fn drawn(alloc: Global, index: &Index<'_>, limit: usize) -> Result<Shapes, AllocError> {
     let (tally, chain) = tally_and_chain_alone(alloc, index)?;
     let order = order_alone(alloc, index, &tally, chain)?;
-    shapes_of(alloc, index, &tally, order.as_deref().unwrap_or(&[]), limit)
+    let window = Window {
+        calls: limit,
+        place: Place::Faults,
+    };
+    shapes_of(
+        alloc,
+        index,
+        &tally,
+        order.as_deref().unwrap_or(&[]),
+        window,
+    )
 }
 
 fn is_bar(bar: &Bar, known: &Drawn) -> bool {

@@ -75,10 +75,11 @@ is_regular es h w a = subst (λ z. IsRegular (calls_of z) ↔ IsRegular (calls_o
     go true l = (λ r. absurd (a.shown.not_regular l r), λ r. absurd (not_regular es h.history a.fault l a.is.fault r))
     go false l = (λ _. (regular_exactly es h.history (bytes_of_events es h.fit)).1 (a.is.local l), a.shown.regular l)
 
-pub none_exactly : (es : List Event) → IsBoundedHistory es → (a : Option LimitedEvents) → option_map (λ h. h.events) a ≡ option_map (fault_witness es) (first_fault (calls_of es)) → IsNone a ↔ IsAtomic (calls_of es)
-none_exactly es h a e = go (first_fault (calls_of es)) refl a e
+-- there is something for the first fault exactly if the history is not atomic
+pub none_exactly : {X Y : Type 0} (es : List Event) → IsBoundedHistory es → (view : X → Y) (shown : Fault → Y) (a : Option X) → option_map view a ≡ option_map shown (first_fault (calls_of es)) → IsNone a ↔ IsAtomic (calls_of es)
+none_exactly {X} es h view shown a e = go (first_fault (calls_of es)) refl a e
   where
-    go : (o : Option Fault) → first_fault (calls_of es) ≡ o → (a : Option LimitedEvents) → option_map (λ h. h.events) a ≡ option_map (fault_witness es) o → IsNone a ↔ IsAtomic (calls_of es)
+    go : (o : Option Fault) → first_fault (calls_of es) ≡ o → (a : Option X) → option_map view a ≡ option_map shown o → IsNone a ↔ IsAtomic (calls_of es)
     go None t None e = (λ _. (atomic_exactly es h.history (bytes_of_events es h.fit)).1 (none_is (calls_of es) t), λ _. refl)
     go None t (Some w) e = absurd (cc e)
     go (Some f) t None e = absurd (cc e)

@@ -1,8 +1,11 @@
 pub mod Steps
 pub mod Places
 pub mod Named
+pub mod Numbers
+pub mod KeptCalls
 pub mod Excess
 pub mod Answered
 pub mod Tallied
 pub mod Reported
+pub mod ViewFaults
 pub mod Within

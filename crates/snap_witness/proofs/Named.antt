@@ -1,7 +1,8 @@
 -- Call numbers and updates that name the first fault of a kind.
-use Rattle.std.proofs.Common.{◌≡◌, ℕ, suc, ◌<◌, ◌≤◌, Bool, true, false, cond, List, [], ◌∷◌, ◌&&◌, zero, get_or, length, Option, Some, refl, sym, ap, ◌∙◌, subst, arith}
+use Rattle.std.proofs.Common.{◌≡◌, ℕ, suc, ◌<◌, ◌≤◌, Bool, true, false, cond, List, [], ◌∷◌, ◌&&◌, zero, get_or, length, map, Option, Some, None, Result, Ok, Err, refl, sym, ap, ◌∙◌, subst, arith}
 use Rattle.std.specs.List.{All}
-use Rattle.std.specs.Option.{option_map}
+use Rattle.std.specs.Option.{option_map, option_or}
+use Rattle.std.specs.Result.{IfOk}
 use Rattle.std.proofs.lemmas.Bool.{and_parts}
 use Rattle.std.proofs.lemmas.List.Sums.{count_by-le-length}
 use Rattle.snap_core.specs.declared.event.Event.{Event}
@@ -19,26 +20,50 @@ use Rattle.snap_conditions.specs.declared.fault.WriteFault.{WriteFault}
 use Rattle.snap_conditions.specs.declared.fault.Side.TheVariants.{Old as OldSide, Early as EarlySide}
 use Rattle.snap_conditions.specs.Tally.{reported_integrity, reported_proximity, reported_read, reported_write}
 use Rattle.snap_index.proofs.IndexedCalls.{call_count_within, mapped_some}
-use Rattle.snap_theory.specs.FaultWitnesses.{Fault, Integrity, Old, Early, Read, Write, IsFaultOf, fault_views, fault_updates, fault_witness}
+use Rattle.snap_theory.specs.FaultWitnesses.{Fault, Integrity, Old, Early, Read, Write, IsFaultOf, fault_views, fault_updates}
 use Rattle.snap_theory.specs.First.{proximity_of, first_integrity, first_proximity, first_read, first_write}
+use Rattle.snap_index.specs.IndexedCalls.{number_of}
+use Rattle.snap_theory.specs.Kept.{is_place_of}
+use Rattle.snap_witness.specs.Keeping.{calls_begun, calls_kept, numbers_kept}
+use Rattle.snap_witness.specs.inside.Names.{Names}
 use Rattle.snap_witness.specs.inside.Places.{calls_numbered}
 use Rattle.snap_witness.specs.Places.{side_number, IsViewAt}
-use Rattle.snap_theory.specs.Witness.{witness_of, AreWitnesses}
+use Rattle.snap_theory.specs.Witness.{witness_calls, AreWitnesses}
 use Rattle.snap_theory.proofs.FaultWitnesses.{are_witnesses}
 use Rattle.snap_theory.proofs.First.{integrity_is, proximity_first, read_is, write_is}
 use Rattle.snap_theory.proofs.Witnesses.{find_there}
 
-pub record Names (es : List Event) (o : Option Fault) (vs : List ℕ) (ps : List (ℕ × ℕ)) : Type 0 where
-  pub within : All (λ c. c < length (calls_of es)) vs
-  pub calls : AreWitnesses es (calls_numbered (calls_of es) vs) ps
-  pub witness : option_map (fault_witness es) o ≡ Some (witness_of es (calls_numbered (calls_of es) vs) ps)
-
 names : (es : List Event) → IsBoundedHistory es → (o : Option Fault) (f : Fault) (vs : List ℕ) → o ≡ Some f → IsFaultOf (calls_of es) f → All (λ c. c < length (calls_of es)) vs → fault_views f ≡ calls_numbered (calls_of es) vs → Names es o vs (fault_updates f)
 names es h o f vs e i within same = record {
+  fault = f;
+  is = e;
   within = within;
   calls = subst (λ rs. AreWitnesses es rs (fault_updates f)) same (are_witnesses es h f i);
-  witness = ap (option_map (fault_witness es)) e ∙ ap (λ rs. Some (witness_of es rs (fault_updates f))) same;
+  views = same;
+  same = refl;
 }
+
+-- what comes first is the first fault, and what comes behind nothing
+pub names_before : (es : List Event) (o p : Option Fault) (vs : List ℕ) (ps : List (ℕ × ℕ)) → Names es o vs ps → Names es (option_or o p) vs ps
+names_before es o p vs ps n = record { fault = n.fault; is = ap (λ z. option_or z p) n.is; within = n.within; calls = n.calls; views = n.views; same = n.same }
+
+pub names_behind : (es : List Event) (o p : Option Fault) (vs : List ℕ) (ps : List (ℕ × ℕ)) → o ≡ None → Names es p vs ps → Names es (option_or o p) vs ps
+names_behind es o p vs ps e n = subst (λ z. Names es (option_or z p) vs ps) (sym e) n
+
+pub both_ok : {X Y : Type 0} (r : Result X Y) (P Q : X → Type 0) → IfOk r P → IfOk r Q → IfOk r (λ x. P x × Q x)
+both_ok (Ok x) P Q p q = (p, q)
+both_ok (Err y) P Q p q = tt
+
+pub names_same : (es : List Event) (o : Option Fault) (vs ws : List ℕ) (ps us : List (ℕ × ℕ)) → ws ≡ vs → us ≡ ps → Names es o vs ps → Names es o ws us
+names_same es o vs ws ps us v p n = subst (λ w. Names es o w us) (sym v) (subst (λ u. Names es o vs u) (sym p) n)
+
+-- the numbers of its calls, by what names it
+pub named_numbers : (es : List Event) (o : Option Fault) (vs : List ℕ) (ps : List (ℕ × ℕ)) → Names es o vs ps →
+    option_map (numbers_kept es) o ≡ Some (map number_of (calls_begun (is_place_of (witness_calls (calls_of es) (calls_numbered (calls_of es) vs) ps)) (calls_of es)))
+unfolding calls_kept
+named_numbers es o vs ps n =
+    ap (option_map (numbers_kept es)) n.is ∙ ap (λ rs. Some (map number_of (calls_begun (is_place_of (witness_calls (calls_of es) rs (fault_updates n.fault))) (calls_of es)))) n.views
+    ∙ ap (λ us. Some (map number_of (calls_begun (is_place_of (witness_calls (calls_of es) (calls_numbered (calls_of es) vs) us)) (calls_of es)))) n.same
 
 one_within : (es : List Event) (r : Call) → IsViewOf (calls_of es) r → All (λ c. c < length (calls_of es)) (r.number ∷ [])
 one_within es r v i d l = go i l
@@ -82,7 +107,7 @@ integrity_named es h fault e =
     (names es h (first_integrity (calls_of es)) (Integrity m.from.0 m.from.1) (m.from.0.number ∷ []) f i (one_within es m.from.0 i.0) (one_call es m.from.0 i.0))
 
 -- the number of an update that there is
-few_updates : (es : List Event) → IsBoundedHistory es → (k n : ℕ) (c : Call) → In c (calls_of es) → is_update_numbered k n c ≡ true → n ≤ event_cap
+pub few_updates : (es : List Event) → IsBoundedHistory es → (k n : ℕ) (c : Call) → In c (calls_of es) → is_update_numbered k n c ≡ true → n ≤ event_cap
 few_updates es h k n c i t =
     let f = find_there (is_update_numbered k n) (calls_of es) c i t in
     let b = update_bounds es h.history k n f.0 f.1 in

@@ -47,9 +47,5 @@ no_write calls t e n = untold reported_write (λ (f : Call × ℕ × ℕ). Write
 
 -- what comes first
 
-pub before : {X : Type 0} (f : Fault → X) (o p : Option Fault) (x : X) → option_map f o ≡ Some x → option_map f (option_or o p) ≡ Some x
-before f None p x e = absurd (cc e)
-before f (Some y) p x e = e
-
 pub behind : (o p : Option Fault) → o ≡ None → option_or o p ≡ p
 behind o p e = ap (λ z. option_or z p) e

@@ -1,2 +1,3 @@
 -- Definitions for the proofs of this crate alone: no clause that a caller reads cites them.
 pub mod Places
+pub mod Names

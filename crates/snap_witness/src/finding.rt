@@ -5,32 +5,20 @@ ghost use Rattle.snap_core.specs.Entries.{entry_of, number_in};
 ghost use Rattle.snap_core.specs.Events.{IsBoundedHistory};
 ghost use Rattle.snap_core.specs.Orders.{IsAtomic};
 ghost use Rattle.snap_core.specs.Regular.{IsRegular};
-ghost use Rattle.snap_theory.specs.Faults.{first_of, integrity_faults, proximity_faults, read_faults, write_faults};
+ghost use Rattle.snap_theory.specs.Faults.{first_of, read_faults};
 ghost use Rattle.snap_conditions.specs.Rows.{first_less};
-ghost use Rattle.snap_conditions.specs.Tally.{tally_of, reported_integrity, reported_proximity, reported_read, reported_write};
+ghost use Rattle.snap_conditions.specs.Tally.{tally_of, reported_read};
 ghost use Rattle.snap_theory.specs.FaultWitnesses.{Read, excess_of, fault_updates, fault_witness};
-ghost use Rattle.snap_theory.specs.First.{first_integrity, first_proximity, first_read, first_write, first_fault, AreWholeCalls, HasFirstFault};
+ghost use Rattle.snap_theory.specs.First.{first_read, first_fault, AreWholeCalls, HasFirstFault};
+ghost use Rattle.snap_witness.specs.Keeping.{numbers_kept as spec_numbers_kept};
 ghost use Rattle.snap_witness.specs.Places.{IsViewAt, side_number as spec_side_number};
+ghost use Rattle.snap_witness.specs.inside.Names.{Names, NamesFirst};
 
-use crate::calls::keep_calls;
-use snap_conditions::{IntegrityFault, ProximityFault, ReadFault, Side, Tally, WriteFault};
+use crate::calls::{keep_calls, numbers_kept};
+use snap_conditions::{ReadFault, Side, Tally};
 use snap_core::{COMPONENT_COUNT, History, View};
 use snap_index::Index;
 use std::alloc::{AllocError, Global};
-
-// The witness of the first integrity fault.
-fn integrity_witness(
-    alloc: Global,
-    index: &Index<'_>,
-    fault: IntegrityFault,
-) -> Result<History, AllocError>
-    requires kept { IsBoundedHistory index.now }
-    requires first { option_map reported_integrity (first_of (integrity_faults (calls_of index.now) (views_of (calls_of index.now)))) ≡ Some fault }
-    ensures { IfOk result (λ witness. option_map (fault_witness index.now) (first_integrity (calls_of index.now)) ≡ Some witness.events) }
-{
-    let shown = (fault.entry.component, fault.entry.number);
-    keep_calls(alloc, index, &[fault.view], &[shown])
-}
 
 /// The number of the update that shows a proximity fault: the one that the view misses, or the one that it shows.
 pub fn side_number(side: Side, number: u32) -> u32
@@ -41,20 +29,6 @@ pub fn side_number(side: Side, number: u32) -> u32
         Side::Old => number + 1,
         Side::Early => number,
     }
-}
-
-// The witness of the first proximity fault.
-fn proximity_witness(
-    alloc: Global,
-    index: &Index<'_>,
-    fault: ProximityFault,
-) -> Result<History, AllocError>
-    requires kept { IsBoundedHistory index.now }
-    requires first { option_map (reported_proximity (calls_of index.now)) (first_of (proximity_faults (calls_of index.now) (views_of (calls_of index.now)))) ≡ Some fault }
-    ensures { IfOk result (λ witness. option_map (fault_witness index.now) (first_proximity (calls_of index.now)) ≡ Some witness.events) }
-{
-    let update = (fault.component, side_number(fault.side, fault.number));
-    keep_calls(alloc, index, &[fault.view], &[update])
 }
 
 /// The least component of which a view shows more than another; none if there is no such component.
@@ -120,25 +94,60 @@ pub fn read_updates(
     Ok(updates)
 }
 
-// The witness of the first read fault.
-fn read_witness(alloc: Global, index: &Index<'_>, fault: ReadFault) -> Result<History, AllocError>
-    requires kept { IsBoundedHistory index.now }
-    requires first { option_map reported_read (first_of (read_faults (calls_of index.now) (views_of (calls_of index.now)))) ≡ Some fault }
-    ensures { IfOk result (λ witness. option_map (fault_witness index.now) (first_read (calls_of index.now)) ≡ Some witness.events) }
-{
-    let updates = read_updates(alloc, index, fault.view, fault.other)?;
-    keep_calls(alloc, index, &[fault.view, fault.other], &updates)
+// The views of a fault by their call numbers, and the updates that show it by their components and numbers.
+#[derive(Drop)]
+struct Choice {
+    views: Vec<u32>,
+    updates: Vec<(u8, u32)>,
 }
 
-// The witness of the first write fault.
-fn write_witness(alloc: Global, index: &Index<'_>, fault: WriteFault) -> Result<History, AllocError>
-    requires kept { IsBoundedHistory index.now }
-    requires first { option_map reported_write (first_of (write_faults (calls_of index.now) (views_of (calls_of index.now)))) ≡ Some fault }
-    ensures { IfOk result (λ witness. option_map (fault_witness index.now) (first_write (calls_of index.now)) ≡ Some witness.events) }
+fn choice_of(alloc: Global, views: &[u32], updates: &[(u8, u32)]) -> Result<Choice, AllocError>
+    ensures views { IfOk result (λ choice. choice.views.items ≡ views.now) }
+    ensures updates { IfOk result (λ choice. choice.updates.items ≡ updates.now) }
 {
-    let missed = (fault.missed_component, fault.missed_number);
-    let shown = (fault.shown_component, fault.shown_number);
-    keep_calls(alloc, index, &[fault.view], &[missed, shown])
+    Ok(Choice {
+        views: views.to_vec(alloc)?,
+        updates: updates.to_vec(alloc)?,
+    })
+}
+
+// The views and the updates of the first read fault.
+fn read_choice(alloc: Global, index: &Index<'_>, fault: ReadFault) -> Result<Choice, AllocError>
+    requires kept { IsBoundedHistory index.now }
+    requires first { option_map reported_read (first_of (read_faults (calls_of index.now) (views_of (calls_of index.now)))) ≡ Some fault }
+    ensures { IfOk result (λ choice. Names index.now (first_read (calls_of index.now)) choice.views.items choice.updates.items) }
+{
+    let updates = read_updates(alloc, index, fault.view, fault.other)?;
+    choice_of(alloc, &[fault.view, fault.other], &updates)
+}
+
+// The views and the updates of the first fault; none if there is no fault.
+fn first_choice(
+    alloc: Global,
+    index: &Index<'_>,
+    tally: &Tally,
+) -> Result<Option<Choice>, AllocError>
+    requires kept { IsBoundedHistory index.now }
+    requires tally { tally.now ≡ tally_of (calls_of index.now) (views_of (calls_of index.now)) }
+    ensures { IfOk result (λ answer. NamesFirst index.now (option_map (λ choice. (choice.views.items, choice.updates.items)) answer)) }
+{
+    if let Some(fault) = tally.integrity.first() {
+        let shown = (fault.entry.component, fault.entry.number);
+        return Ok(Some(choice_of(alloc, &[fault.view], &[shown])?));
+    }
+    if let Some(fault) = tally.proximity.first() {
+        let update = (fault.component, side_number(fault.side, fault.number));
+        return Ok(Some(choice_of(alloc, &[fault.view], &[update])?));
+    }
+    if let Some(fault) = tally.read.first() {
+        return Ok(Some(read_choice(alloc, index, fault)?));
+    }
+    if let Some(fault) = tally.write.first() {
+        let missed = (fault.missed_component, fault.missed_number);
+        let shown = (fault.shown_component, fault.shown_number);
+        return Ok(Some(choice_of(alloc, &[fault.view], &[missed, shown])?));
+    }
+    Ok(None)
 }
 
 // The witness of the first fault; none if there is no fault.
@@ -151,19 +160,13 @@ fn first_witness(
     requires tally { tally.now ≡ tally_of (calls_of index.now) (views_of (calls_of index.now)) }
     ensures { IfOk result (λ answer. option_map (λ h. h.events) answer ≡ option_map (fault_witness index.now) (first_fault (calls_of index.now))) }
 {
-    if let Some(fault) = tally.integrity.first() {
-        return Ok(Some(integrity_witness(alloc, index, fault)?));
+    match first_choice(alloc, index, tally)? {
+        Some(choice) => {
+            let witness = keep_calls(alloc, index, &choice.views, &choice.updates)?;
+            Ok(Some(witness))
+        }
+        None => Ok(None),
     }
-    if let Some(fault) = tally.proximity.first() {
-        return Ok(Some(proximity_witness(alloc, index, fault)?));
-    }
-    if let Some(fault) = tally.read.first() {
-        return Ok(Some(read_witness(alloc, index, fault)?));
-    }
-    if let Some(fault) = tally.write.first() {
-        return Ok(Some(write_witness(alloc, index, fault)?));
-    }
-    Ok(None)
 }
 
 /// The witness of the first fault of a history; none if the history is atomic. The first fault is the first of its kind in the
@@ -191,4 +194,39 @@ pub fn witness(
     // this call shows what is known of the index's history
     let _events = index.event_count();
     first_witness(alloc, index, tally)
+}
+
+// The numbers of the calls that the witness of the first fault keeps; none if there is no fault.
+fn first_kept(
+    alloc: Global,
+    index: &Index<'_>,
+    tally: &Tally,
+) -> Result<Option<Vec<u32>>, AllocError>
+    requires kept { IsBoundedHistory index.now }
+    requires tally { tally.now ≡ tally_of (calls_of index.now) (views_of (calls_of index.now)) }
+    ensures { IfOk result (λ answer. option_map (λ kept. kept.items) answer ≡ option_map (spec_numbers_kept index.now) (first_fault (calls_of index.now))) }
+{
+    match first_choice(alloc, index, tally)? {
+        Some(choice) => {
+            let kept = numbers_kept(alloc, index, &choice.views, &choice.updates)?;
+            Ok(Some(kept))
+        }
+        None => Ok(None),
+    }
+}
+
+/// The numbers of the calls that `witness` keeps of a history, in their order; none if the history is atomic. Call `i` of the witness
+/// is what is left of the `i`-th of these. The tally is that of all completed views. The error is lack of memory.
+pub fn kept_calls(
+    alloc: Global,
+    index: &Index<'_>,
+    tally: &Tally,
+) -> Result<Option<Vec<u32>>, AllocError>
+    requires tally { tally.now ≡ tally_of (calls_of index.now) (views_of (calls_of index.now)) }
+    ensures none { IfOk result (λ answer. IsNone answer ↔ IsAtomic (calls_of index.now)) }
+    ensures first { IfOk result (λ answer. option_map (λ kept. kept.items) answer ≡ option_map (spec_numbers_kept index.now) (first_fault (calls_of index.now))) }
+{
+    // this call shows what is known of the index's history
+    let _events = index.event_count();
+    first_kept(alloc, index, tally)
 }

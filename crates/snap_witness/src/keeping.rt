@@ -82,7 +82,8 @@ pub(crate) fn kept_event(
     })
 }
 
-fn is_among(places: &[u32], place: u32) -> bool
+// Whether a place is among some.
+pub(crate) fn is_among(places: &[u32], place: u32) -> bool
     ensures { result ≡ spec_is_among places.now place }
 {
     places.iter().any(|p| *p == place)

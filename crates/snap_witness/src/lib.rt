@@ -5,4 +5,4 @@ mod calls;
 mod finding;
 mod keeping;
 
-pub use finding::{least_exceeding, read_updates, side_number, view_numbered, witness};
+pub use finding::{kept_calls, least_exceeding, read_updates, side_number, view_numbered, witness};

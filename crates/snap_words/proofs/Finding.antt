@@ -31,9 +31,11 @@ pub gives_more : (command : Text) (rows : List Row) (Gives More : (Job → Type 
 gives_more command rows Gives More GivesNone MoreNone more none finds = record {
   check = λ asked is asks. more _ (finds.check asked is asks);
   follow = λ events windows is asks. more _ (finds.follow events windows is asks);
-  shrink = λ events drawn is asks. more _ (finds.shrink events drawn is asks);
-  explain = λ events drawn whole is asks. more _ (finds.explain events drawn whole is asks);
-  draw = λ events form is asks. more _ (finds.draw events form is asks);
+  shrink = λ events shrunk is asks. more _ (finds.shrink events shrunk is asks);
+  drawn_map = λ is asks. none (finds.drawn_map is asks);
+  explain = λ events drawn whole faults is asks. more _ (finds.explain events drawn whole faults is asks);
+  drawn_faults = λ is asks. none (finds.drawn_faults is asks);
+  draw = λ events form part is asks. more _ (finds.draw events form part is asks);
   stats = λ events json is asks. more _ (finds.stats events json is asks);
   repeated = λ is asks. none (finds.repeated is asks);
   recording = λ events workers rounds seed flags is asks. more _ (finds.recording events workers rounds seed flags is asks);

@@ -1,14 +1,18 @@
 -- What whole lines mean, where the parser reads them so.
 use Rattle.std.proofs.Common.{◌≡◌, ◌∙◌, ◌+◌, ◌≤◌, ℕ, Bool, List, Option, Some, None, [], true, false, ap, arith, codes, length, refl, subst, sym}
 use Rattle.std.specs.Prelude.{IsSome, decimal, is_none, option_map}
+use Rattle.std.specs.Option.{ForSome}
 use Rattle.std.proofs.lemmas.Bool.{false≢true}
 use Rattle.clap.specs.Words.{Row, Text, first_of, one_of, subcommand_of, takes}
+use Rattle.snap_core.specs.Events.{event_cap}
 use Rattle.snap_core.specs.Limits.{IsLimit, event_limit}
 use Rattle.snap_threads.specs.Cuttings.{IsPieces, IsWorkers}
 use Rattle.snap_words.specs.CommandLine.{program_app}
 use Rattle.snap_record.specs.Plans.{AreRoundsWithin}
-use Rattle.snap_words.specs.Jobs.{AreViews, AsksCheck, AsksFollow, AsksLimit, AsksRecordWithin, AsksStatsWithin, Checking, Flags, IsOneForm, IsWindow, SaysColor, SaysOr, files_of, flag_text, format_text, inputs_at, inputs_in, names_unheeded, names_windows, object_format, plain_check, usual_rounds, usual_window}
+use Rattle.snap_words.specs.Drawing.{AsksPlace}
+use Rattle.snap_words.specs.Jobs.{AreViews, AsksCheck, AsksFollow, AsksLimit, AsksRecordWithin, AsksStatsWithin, Checking, Flags, IsOneForm, IsWindow, SaysColor, SaysOr, files_of, flag_text, format_text, inputs_at, inputs_in, names_unheeded, names_windows, object_format, plain_check, usual_late, usual_rounds, usual_window}
 use Rattle.snap_words.specs.Lines.{Means}
+use Rattle.snap_words.specs.declared.drawing.Place.TheVariants.{Faults}
 use Rattle.snap_words.specs.declared.format.Format.TheVariants.{Plain}
 use Rattle.snap_words.specs.declared.job.Options.{Options}
 use Rattle.snap_words.specs.declared.job.Windows.{Windows}
@@ -57,6 +61,7 @@ pub record Said : Type 0 where
   pub follow : Option Text
   pub window : Option Text
   pub idle : Option Text
+  pub late : Option Text
   pub windows : Bool
   pub unheeded : Bool
   pub no_progress : Option Text
@@ -77,6 +82,7 @@ said_in rows = record {
   follow = one_of (codes "follow") rows;
   window = one_of (codes "window") rows;
   idle = one_of (codes "idle") rows;
+  late = one_of (codes "late") rows;
   windows = names_windows rows;
   unheeded = names_unheeded rows;
   no_progress = one_of (codes "no-progress") rows;
@@ -99,6 +105,7 @@ saying asked pieces workers color unheeded = record {
   follow = Some (flag_text false);
   window = None;
   idle = None;
+  late = None;
   windows = false;
   unheeded = unheeded;
   no_progress = Some (flag_text asked.options.no_progress);
@@ -183,8 +190,8 @@ check_of words asked files unheeded fit taken named said files_are =
     (asks_check (rows_by words) asked files unheeded fit said files_are) files_are
 
 -- what is said where windows are asked for, by these texts of numbers or without
-abbrev pub following : ℕ → Windows → Option Text → Option Text → Said → Said
-following events windows window idle said = record said {
+abbrev pub following : ℕ → Windows → Option Text → Option Text → Option Text → Said → Said
+following events windows window idle late said = record said {
   events = Some (decimal events);
   views = Some (decimal windows.views);
   quiet = Some (flag_text false);
@@ -193,23 +200,25 @@ following events windows window idle said = record said {
   follow = Some (flag_text true);
   window = window;
   idle = idle;
+  late = late;
   unheeded = false;
   null = Some (flag_text false);
 }
 
 -- lines of `check --follow`
-pub follow_of : {window idle : Option Text} → (words : List Text) (events : ℕ) (windows : Windows) (files : List Text) → IsLimit events
-    → AreViews events windows.views → IsWindow events windows.least → windows.idle ≤ NUMBER_LIMIT → length files ≤ 1
-    → SaysOr (usual_window events) window windows.least → SaysOr 0 idle windows.idle → takes program_app words ≡ true
+pub follow_of : {window idle late : Option Text} → (words : List Text) (events : ℕ) (windows : Windows) (files : List Text) → IsLimit events
+    → AreViews events windows.views → IsWindow events windows.least → windows.idle ≤ NUMBER_LIMIT → windows.late ≤ event_cap → length files ≤ 1
+    → SaysOr (usual_window events) window windows.least → SaysOr 0 idle windows.idle → SaysOr usual_late late windows.late → takes program_app words ≡ true
     → command_in (subcommand_of program_app words) ≡ Some (codes "check")
-    → said_in (rows_by words) ≡ following events windows window idle (said_in (rows_by words)) → files_of (rows_by words) ≡ files
+    → said_in (rows_by words) ≡ following events windows window idle late (said_in (rows_by words)) → files_of (rows_by words) ≡ files
     → Means words (codes "check") (λ rows. AsksFollow events rows windows) files
-follow_of words events windows files events_fit views_fit window_fits idle_fits one_file window_is idle_is taken named said files_are =
+follow_of words events windows files events_fit views_fit window_fits idle_fits late_fits one_file window_is idle_is late_is taken named said files_are =
     means words (codes "check") (λ rows. AsksFollow events rows windows) files taken named (record {
       limit = record { events_fit = events_fit; events_are = ap (λ s. s.events) said };
       views_fit = views_fit;
       window_fits = window_fits;
       idle_fits = idle_fits;
+      late_fits = late_fits;
       one_file = subst (λ (names : List Text). length names ≤ 1) (sym files_are) one_file;
       follow_is = ap (λ s. s.follow) said;
       all_heeded = ap (λ s. s.unheeded) said;
@@ -220,7 +229,22 @@ follow_of words events windows files events_fit views_fit window_fits idle_fits 
       views_are = ap (λ s. s.views) said;
       window_is = subst (λ text. SaysOr (usual_window events) text windows.least) (sym (ap (λ s. s.window) said)) window_is;
       idle_is = subst (λ text. SaysOr 0 text windows.idle) (sym (ap (λ s. s.idle) said)) idle_is;
+      late_is = subst (λ text. SaysOr usual_late text windows.late) (sym (ap (λ s. s.late) said)) late_is;
     }) files_are
+
+-- no number is asked for, or one
+pub no_number : (P : ℕ → Type 0) → ForSome None P
+no_number P = λ n is. absurd cc
+
+pub one_number : (P : ℕ → Type 0) (n : ℕ) → P n → ForSome (Some n) P
+one_number P n fits = λ m is. subst P (some_is n m is) fits
+  where
+    some_is : (n m : ℕ) → Some n ≡ Some m → n ≡ m
+    some_is n m is = cc
+
+-- rows of `draw` that choose no place
+pub no_place : (rows : List Row) → one_of (codes "from") rows ≡ None → one_of (codes "around") rows ≡ None → AsksPlace rows Faults
+no_place rows from around = record { from_fits = no_number _; around_fits = no_number _; from_is = from; around_is = around }
 
 -- lines of `stats`
 pub stats_of : (events : ℕ) (json : Bool) (files : List Text) (words : List Text)

@@ -26,6 +26,13 @@ number_said (Some text) found usual n absent given is = ap (λ (f : Option ℕ).
 pub zero_text : decimal 0 ≡ codes "0"
 zero_text = decimal_digit 0 (omega arith)
 
+pub one_text : decimal 1 ≡ codes "1"
+one_text = decimal_digit 1 (omega arith)
+
+pub ten_text : decimal 10 ≡ codes "10"
+unfolding digits
+ten_text = refl
+
 pub two_text : decimal 2 ≡ codes "2"
 two_text = decimal_digit 2 (omega arith)
 

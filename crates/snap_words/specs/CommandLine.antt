@@ -7,7 +7,8 @@ use Rattle.snap_core.specs.Events.{event_cap}
 use Rattle.snap_record.specs.Plans.{worker_limit}
 use Rattle.snap_record.specs.declared.plan.TheConstants.{LEAST_WORKERS}
 use Rattle.snap_threads.specs.declared.cutting.TheConstants.{PIECE_LIMIT, WORKER_LIMIT}
-use Rattle.snap_words.specs.declared.word.TheConstants.{NUMBER_LIMIT}
+use Rattle.snap_words.specs.declared.drawing.TheConstants.{MOST_CALLS}
+use Rattle.snap_words.specs.declared.word.TheConstants.{FAULT_LIMIT, NUMBER_LIMIT}
 use Rattle.snap_words.specs.declared.command.Kind.{Kind}
 use Rattle.snap_words.specs.declared.command.Kind.TheVariants.{Check, Draw, Explain, Record, Shrink, Stats}
 use Rattle.snap_words.specs.Tables.{with_apps, with_rules}
@@ -52,6 +53,10 @@ window_rule = record (new_rule (codes "window")) { long = Some (codes "window");
 abbrev pub idle_rule : Rule
 idle_rule = record (new_rule (codes "idle")) { long = Some (codes "idle"); value_names = 1; parser = Some (Signed (pos 0) (pos NUMBER_LIMIT)) }
 
+-- --late N
+abbrev pub late_rule : Rule
+late_rule = record (new_rule (codes "late")) { long = Some (codes "late"); value_names = 1; parser = Some (Signed (pos 0) (pos event_cap)) }
+
 -- --no-progress
 abbrev pub no_progress_rule : Rule
 no_progress_rule = record (new_rule (codes "no-progress")) { long = Some (codes "no-progress"); action = Some SetTrue }
@@ -81,27 +86,35 @@ abbrev pub folder_rule : Rule
 folder_rule = record (new_rule (codes "folder")) { long = Some (codes "recursive"); short = Some 114; value_names = 1 }
 
 -- check [--pieces P] [--workers W] [--files-from LIST [--null]] [--recursive FOLDER] [--quiet] [--views N] [--events N]
--- [--format FORMAT] [--summary] [--follow] [--window N] [--idle SECONDS] [--no-progress] [--color WHEN] [FILE ..]
+-- [--format FORMAT] [--summary] [--follow] [--window N] [--idle SECONDS] [--late N] [--no-progress] [--color WHEN] [FILE ..]
 abbrev pub check_app : App
 check_app = with_rules (new_app (codes "check"))
     (pieces_rule ∷ workers_rule ∷ list_rule ∷ null_rule ∷ folder_rule ∷ quiet_rule ∷ views_rule ∷ events_rule ∷ format_rule ∷ summary_rule
-    ∷ follow_rule ∷ window_rule ∷ idle_rule ∷ no_progress_rule ∷ color_rule ∷ files_rule ∷ [])
+    ∷ follow_rule ∷ window_rule ∷ idle_rule ∷ late_rule ∷ no_progress_rule ∷ color_rule ∷ files_rule ∷ [])
 
 -- --draw
 abbrev pub draw_rule : Rule
 draw_rule = record (new_rule (codes "draw")) { long = Some (codes "draw"); action = Some SetTrue }
 
--- shrink [--draw] [--events N] [FILE]
+-- --map
+abbrev pub map_rule : Rule
+map_rule = record (new_rule (codes "map")) { long = Some (codes "map"); action = Some SetTrue }
+
+-- shrink [--draw] [--map] [--events N] [FILE]
 abbrev pub shrink_app : App
-shrink_app = with_rules (new_app (codes "shrink")) (draw_rule ∷ events_rule ∷ file_rule ∷ [])
+shrink_app = with_rules (new_app (codes "shrink")) (draw_rule ∷ map_rule ∷ events_rule ∷ file_rule ∷ [])
 
 -- --all
 abbrev pub all_rule : Rule
 all_rule = record (new_rule (codes "all")) { long = Some (codes "all"); action = Some SetTrue }
 
--- explain [--draw] [--all] [--events N] [FILE]
+-- --faults N, or 1 if it is not given
+abbrev pub faults_rule : Rule
+faults_rule = record (new_rule (codes "faults")) { long = Some (codes "faults"); value_names = 1; parser = Some (Signed (pos 1) (pos FAULT_LIMIT)); defaults = codes "1" ∷ [] }
+
+-- explain [--draw] [--all] [--faults N] [--events N] [FILE]
 abbrev pub explain_app : App
-explain_app = with_rules (new_app (codes "explain")) (draw_rule ∷ all_rule ∷ events_rule ∷ file_rule ∷ [])
+explain_app = with_rules (new_app (codes "explain")) (draw_rule ∷ all_rule ∷ faults_rule ∷ events_rule ∷ file_rule ∷ [])
 
 -- --svg
 abbrev pub svg_rule : Rule
@@ -119,9 +132,22 @@ light_rule = record (new_rule (codes "light")) { long = Some (codes "light"); ac
 abbrev pub dark_rule : Rule
 dark_rule = record (new_rule (codes "dark")) { long = Some (codes "dark"); action = Some SetTrue }
 
--- draw [--svg] [--text] [--light] [--dark] [--events N] [FILE]
+-- --calls N
+abbrev pub calls_rule : Rule
+calls_rule = record (new_rule (codes "calls")) { long = Some (codes "calls"); value_names = 1; parser = Some (Signed (pos 1) (pos MOST_CALLS)) }
+
+-- --from CALL
+abbrev pub from_rule : Rule
+from_rule = record (new_rule (codes "from")) { long = Some (codes "from"); value_names = 1; parser = Some (Signed (pos 1) (pos event_cap)) }
+
+-- --around CALL
+abbrev pub around_rule : Rule
+around_rule = record (new_rule (codes "around")) { long = Some (codes "around"); value_names = 1; parser = Some (Signed (pos 1) (pos event_cap)) }
+
+-- draw [--svg] [--text] [--light] [--dark] [--calls N] [--from CALL] [--around CALL] [--events N] [FILE]
 abbrev pub draw_app : App
-draw_app = with_rules (new_app (codes "draw")) (svg_rule ∷ text_rule ∷ light_rule ∷ dark_rule ∷ events_rule ∷ file_rule ∷ [])
+draw_app = with_rules (new_app (codes "draw"))
+    (svg_rule ∷ text_rule ∷ light_rule ∷ dark_rule ∷ calls_rule ∷ from_rule ∷ around_rule ∷ events_rule ∷ file_rule ∷ [])
 
 -- stats [--format FORMAT] [--events N] [FILE ..]
 abbrev pub stats_app : App

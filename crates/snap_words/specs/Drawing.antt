@@ -1,12 +1,18 @@
 -- What the words of `draw` ask for.
-use Rattle.std.specs.Prelude.{◌≡◌, ℕ, Bool, true, false, List, Some, codes}
+use Rattle.std.specs.Prelude.{◌≡◌, ◌≤◌, ℕ, Bool, true, false, List, Option, Some, None, codes, decimal}
+use Rattle.std.specs.Option.{ForSome, option_map}
 use Rattle.clap.specs.Words.{Row, one_of}
+use Rattle.snap_core.specs.Events.{event_cap}
 use Rattle.snap_core.specs.Limits.{event_limit}
+use Rattle.snap_words.specs.declared.drawing.Part.{Part}
+use Rattle.snap_words.specs.declared.drawing.Place.{Place}
+use Rattle.snap_words.specs.declared.drawing.Place.TheVariants.{Faults, From, Around}
 use Rattle.snap_words.specs.declared.drawing.Form.{Form}
 use Rattle.snap_words.specs.declared.drawing.Form.TheVariants.{Lines, Page, Svg}
 use Rattle.snap_words.specs.declared.drawing.Scheme.{Scheme}
 use Rattle.snap_words.specs.declared.drawing.Scheme.TheVariants.{Reader, Light, Dark}
 use Rattle.snap_words.specs.Jobs.{AsksLimit, flag_text}
+use Rattle.snap_words.specs.Parts.{HasRoom}
 
 -- whether a form has the flag --svg
 abbrev pub asks_svg : Form → Bool
@@ -43,13 +49,39 @@ pub record AsksScheme (rows : List Row) (scheme : Scheme) : Type 0 where
   pub light_is : one_of (codes "light") rows ≡ Some (flag_text (asks_light scheme))
   pub dark_is : one_of (codes "dark") rows ≡ Some (flag_text (asks_dark scheme))
 
--- the flags of `draw` are those of a form, and the limit of events is this
-pub record AsksDrawWithin (events : ℕ) (rows : List Row) (form : Form) : Type 0 where
+-- the call that --from names
+abbrev pub from_of : Place → Option ℕ
+from_of Faults = None
+from_of (From call) = Some call
+from_of (Around call) = None
+
+-- the call that --around names
+abbrev pub around_of : Place → Option ℕ
+around_of Faults = None
+around_of (From call) = None
+around_of (Around call) = Some call
+
+-- --from and --around ask for this place; no history has a call of a greater number
+pub record AsksPlace (rows : List Row) (place : Place) : Type 0 where
+  pub from_fits : ForSome (from_of place) (λ n. n ≤ event_cap)
+  pub around_fits : ForSome (around_of place) (λ n. n ≤ event_cap)
+  pub from_is : one_of (codes "from") rows ≡ option_map decimal (from_of place)
+  pub around_is : one_of (codes "around") rows ≡ option_map decimal (around_of place)
+
+-- the flags of `draw` are those of a form, its numbers those of a part, for which the form has room, and the limit of events is this
+pub record AsksDrawWithin (events : ℕ) (rows : List Row) (form : Form) (part : Part) : Type 0 where
   pub limit : AsksLimit events rows
   pub svg_is : one_of (codes "svg") rows ≡ Some (flag_text (asks_svg form))
   pub text_is : one_of (codes "text") rows ≡ Some (flag_text (asks_text form))
   pub scheme : AsksScheme rows (scheme_of form)
+  pub room : HasRoom form part.calls
+  pub calls_are : one_of (codes "calls") rows ≡ option_map decimal part.calls
+  pub place : AsksPlace rows part.place
 
--- what `draw` asks for if no limit is chosen
+-- the usual number of calls, at the first faults
+abbrev pub usual_part : Part
+usual_part = record { calls = None; place = Faults }
+
+-- what `draw` asks for if no limit and no part is chosen
 abbrev pub AsksDraw : List Row → Form → Type 0
-AsksDraw = AsksDrawWithin event_limit
+AsksDraw rows form = AsksDrawWithin event_limit rows form usual_part

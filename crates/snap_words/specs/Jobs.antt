@@ -4,10 +4,13 @@ use Rattle.std.specs.Global.{Vec}
 use Rattle.std.specs.List.{count_by}
 use Rattle.std.specs.Str.{bytes_eq}
 use Rattle.clap.specs.Words.{Row, Text, all_of, first_of, one_of}
+use Rattle.snap_core.specs.Events.{event_cap}
 use Rattle.snap_core.specs.Limits.{IsLimit, event_limit}
 use Rattle.snap_record.specs.Plans.{AreRounds, AreRoundsWithin, AreWorkers, worker_limit}
 use Rattle.snap_threads.specs.Cuttings.{IsPieces, IsWorkers}
 use Rattle.snap_words.specs.declared.drawing.Form.{Form}
+use Rattle.snap_words.specs.declared.drawing.Part.{Part}
+use Rattle.snap_words.specs.Parts.{HasRoom}
 use Rattle.snap_words.specs.declared.job.Job.{Job}
 use Rattle.snap_words.specs.declared.job.Job.TheVariants.{Check, Follow, Shrink, Explain, Draw, Stats, Record}
 use Rattle.snap_words.specs.declared.color.Color.{Color}
@@ -16,7 +19,8 @@ use Rattle.snap_words.specs.declared.format.Format.{Format}
 use Rattle.snap_words.specs.declared.format.Format.TheVariants.{Plain, Json, Junit}
 use Rattle.snap_words.specs.declared.job.Options.{Options}
 use Rattle.snap_words.specs.declared.job.Windows.{Windows}
-use Rattle.snap_words.specs.declared.word.TheConstants.{NUMBER_LIMIT}
+use Rattle.snap_words.specs.declared.shrunk.Shrunk.{Shrunk}
+use Rattle.snap_words.specs.declared.word.TheConstants.{FAULT_LIMIT, NUMBER_LIMIT}
 
 -- a history of `events` events can have this many completed views, of two events each
 abbrev pub AreViews : ℕ → ℕ → Type 0
@@ -32,14 +36,18 @@ pub record IsOneForm (options : Options) : Type 0 where
 abbrev pub IsWindow : ℕ → ℕ → Type 0
 IsWindow events least = IsLimit least × (least ≤ events)
 
+-- the number of faults of a kind that an explanation has
+abbrev pub AreFaults : ℕ → Type 0
+AreFaults faults = (1 ≤ faults) × (faults ≤ FAULT_LIMIT)
+
 -- the numbers of a job are in their ranges; it asks for one form of answer, and not for a report with stamps
 abbrev pub IsInRange : Job → Type 0
 IsInRange (Check cutting limit options input) =
     IsPieces cutting.pieces × IsWorkers cutting.workers × IsLimit limit.events × AreViews limit.events options.views × IsOneForm options
 IsInRange (Follow limit windows file) = IsLimit limit.events × AreViews limit.events windows.views × IsWindow limit.events windows.least
-IsInRange (Shrink drawn limit file) = IsLimit limit.events
-IsInRange (Explain drawn whole limit file) = IsLimit limit.events
-IsInRange (Draw form limit file) = IsLimit limit.events
+IsInRange (Shrink shrunk limit file) = IsLimit limit.events
+IsInRange (Explain drawn whole faults limit file) = IsLimit limit.events × AreFaults faults × (drawn ≡ true → faults ≡ 1)
+IsInRange (Draw form part limit file) = IsLimit limit.events × HasRoom form part.calls
 IsInRange (Stats json limit files) = IsLimit limit.events
 IsInRange (Record workers rounds judge scan stamped seed) = AreWorkers workers × AreRounds rounds × (judge ≡ true → stamped ≡ false)
 
@@ -91,9 +99,9 @@ IsCheck asked files (Check cutting limit options input) =
     (cutting.pieces ≡ asked.pieces) × (cutting.workers ≡ asked.workers) × (limit.events ≡ asked.events) × (options ≡ asked.options)
     × (texts_of input.files.items ≡ files) × (text_of input.list ≡ asked.list) × (input.null ≡ asked.null) × (text_of input.folder ≡ asked.folder)
 IsCheck asked files (Follow limit windows file) = ⊥
-IsCheck asked files (Shrink drawn limit file) = ⊥
-IsCheck asked files (Explain drawn whole limit file) = ⊥
-IsCheck asked files (Draw form limit file) = ⊥
+IsCheck asked files (Shrink shrunk limit file) = ⊥
+IsCheck asked files (Explain drawn whole faults limit file) = ⊥
+IsCheck asked files (Draw form part limit file) = ⊥
 IsCheck asked files (Stats json limit names) = ⊥
 IsCheck asked files (Record w rounds judge scan stamped seed) = ⊥
 
@@ -101,49 +109,49 @@ IsCheck asked files (Record w rounds judge scan stamped seed) = ⊥
 abbrev pub IsFollow : ℕ → Windows → List Text → Job → Type 0
 IsFollow events windows files (Check cutting limit options input) = ⊥
 IsFollow events windows files (Follow limit asked file) = (limit.events ≡ events) × (asked ≡ windows) × (text_of file ≡ first_name files)
-IsFollow events windows files (Shrink drawn limit file) = ⊥
-IsFollow events windows files (Explain drawn whole limit file) = ⊥
-IsFollow events windows files (Draw form limit file) = ⊥
+IsFollow events windows files (Shrink shrunk limit file) = ⊥
+IsFollow events windows files (Explain drawn whole faults limit file) = ⊥
+IsFollow events windows files (Draw form part limit file) = ⊥
 IsFollow events windows files (Stats json limit names) = ⊥
 IsFollow events windows files (Record w rounds judge scan stamped seed) = ⊥
 
--- the job cuts down the history in the first of these files, of at most `events` events, to a text or to its picture
-abbrev pub IsShrink : ℕ → Bool → List Text → Job → Type 0
-IsShrink events drawn files (Check cutting limit options input) = ⊥
-IsShrink events drawn files (Follow limit windows file) = ⊥
-IsShrink events drawn files (Shrink asked limit file) = (asked ≡ drawn) × (limit.events ≡ events) × (text_of file ≡ first_name files)
-IsShrink events drawn files (Explain asked whole limit file) = ⊥
-IsShrink events drawn files (Draw form limit file) = ⊥
-IsShrink events drawn files (Stats json limit names) = ⊥
-IsShrink events drawn files (Record w rounds judge scan stamped seed) = ⊥
+-- the job cuts down the history in the first of these files, of at most `events` events, and writes this of it
+abbrev pub IsShrink : ℕ → Shrunk → List Text → Job → Type 0
+IsShrink events shrunk files (Check cutting limit options input) = ⊥
+IsShrink events shrunk files (Follow limit windows file) = ⊥
+IsShrink events shrunk files (Shrink asked limit file) = (asked ≡ shrunk) × (limit.events ≡ events) × (text_of file ≡ first_name files)
+IsShrink events shrunk files (Explain drawn whole faults limit file) = ⊥
+IsShrink events shrunk files (Draw form part limit file) = ⊥
+IsShrink events shrunk files (Stats json limit names) = ⊥
+IsShrink events shrunk files (Record w rounds judge scan stamped seed) = ⊥
 
--- the job explains it, with a picture or without, and with all entries of the views of a fault or without
-abbrev pub IsExplain : ℕ → Bool → Bool → List Text → Job → Type 0
-IsExplain events drawn whole files (Check cutting limit options input) = ⊥
-IsExplain events drawn whole files (Follow limit windows file) = ⊥
-IsExplain events drawn whole files (Shrink asked limit file) = ⊥
-IsExplain events drawn whole files (Explain asked all limit file) = (asked ≡ drawn) × (all ≡ whole) × (limit.events ≡ events) × (text_of file ≡ first_name files)
-IsExplain events drawn whole files (Draw form limit file) = ⊥
-IsExplain events drawn whole files (Stats json limit names) = ⊥
-IsExplain events drawn whole files (Record w rounds judge scan stamped seed) = ⊥
+-- the job explains it, with a picture or without, with all entries of the views of a fault or without, and with this many faults
+abbrev pub IsExplain : ℕ → Bool → Bool → ℕ → List Text → Job → Type 0
+IsExplain events drawn whole faults files (Check cutting limit options input) = ⊥
+IsExplain events drawn whole faults files (Follow limit windows file) = ⊥
+IsExplain events drawn whole faults files (Shrink asked limit file) = ⊥
+IsExplain events drawn whole faults files (Explain asked all told limit file) = (asked ≡ drawn) × (all ≡ whole) × (told ≡ faults) × (limit.events ≡ events) × (text_of file ≡ first_name files)
+IsExplain events drawn whole faults files (Draw form part limit file) = ⊥
+IsExplain events drawn whole faults files (Stats json limit names) = ⊥
+IsExplain events drawn whole faults files (Record w rounds judge scan stamped seed) = ⊥
 
--- the job draws it in a form
-abbrev pub IsDraw : ℕ → Form → List Text → Job → Type 0
-IsDraw events form files (Check cutting limit options input) = ⊥
-IsDraw events form files (Follow limit windows file) = ⊥
-IsDraw events form files (Shrink drawn limit file) = ⊥
-IsDraw events form files (Explain drawn whole limit file) = ⊥
-IsDraw events form files (Draw asked limit file) = (asked ≡ form) × (limit.events ≡ events) × (text_of file ≡ first_name files)
-IsDraw events form files (Stats json limit names) = ⊥
-IsDraw events form files (Record w rounds judge scan stamped seed) = ⊥
+-- the job draws a part of it in a form
+abbrev pub IsDraw : ℕ → Form → Part → List Text → Job → Type 0
+IsDraw events form part files (Check cutting limit options input) = ⊥
+IsDraw events form part files (Follow limit windows file) = ⊥
+IsDraw events form part files (Shrink shrunk limit file) = ⊥
+IsDraw events form part files (Explain drawn whole faults limit file) = ⊥
+IsDraw events form part files (Draw asked cut limit file) = (asked ≡ form) × (cut ≡ part) × (limit.events ≡ events) × (text_of file ≡ first_name files)
+IsDraw events form part files (Stats json limit names) = ⊥
+IsDraw events form part files (Record w rounds judge scan stamped seed) = ⊥
 
 -- the job counts what the history in each of these files has shown, as objects or as lines
 abbrev pub IsStats : ℕ → Bool → List Text → Job → Type 0
 IsStats events json files (Check cutting limit options input) = ⊥
 IsStats events json files (Follow limit windows file) = ⊥
-IsStats events json files (Shrink drawn limit file) = ⊥
-IsStats events json files (Explain drawn whole limit file) = ⊥
-IsStats events json files (Draw form limit file) = ⊥
+IsStats events json files (Shrink shrunk limit file) = ⊥
+IsStats events json files (Explain drawn whole faults limit file) = ⊥
+IsStats events json files (Draw form part limit file) = ⊥
 IsStats events json files (Stats asked limit names) = (asked ≡ json) × (limit.events ≡ events) × (texts_of names.items ≡ files)
 IsStats events json files (Record w rounds judge scan stamped seed) = ⊥
 
@@ -160,9 +168,9 @@ no_flags = record { judge = false; scan = false; stamped = false }
 abbrev pub IsRecord : ℕ → ℕ → ℕ → Flags → Job → Type 0
 IsRecord workers rounds seed flags (Check cutting limit options input) = ⊥
 IsRecord workers rounds seed flags (Follow limit windows file) = ⊥
-IsRecord workers rounds seed flags (Shrink drawn limit file) = ⊥
-IsRecord workers rounds seed flags (Explain drawn whole limit file) = ⊥
-IsRecord workers rounds seed flags (Draw form limit file) = ⊥
+IsRecord workers rounds seed flags (Shrink shrunk limit file) = ⊥
+IsRecord workers rounds seed flags (Explain drawn whole faults limit file) = ⊥
+IsRecord workers rounds seed flags (Draw form part limit file) = ⊥
 IsRecord workers rounds seed flags (Stats json limit names) = ⊥
 IsRecord workers rounds seed flags (Record w r judge scan stamped s) =
     (w ≡ workers) × (r ≡ rounds) × (s ≡ seed) × (judge ≡ flags.judge) × (scan ≡ flags.scan) × (stamped ≡ flags.stamped)
@@ -176,24 +184,6 @@ flag_text false = codes "false"
 pub record AsksLimit (events : ℕ) (rows : List Row) : Type 0 where
   pub events_fit : IsLimit events
   pub events_are : one_of (codes "events") rows ≡ Some (decimal events)
-
--- whether --draw asks for a picture, and the limit of events
-pub record AsksPictureWithin (events : ℕ) (drawn : Bool) (rows : List Row) : Type 0 where
-  pub drawn_is : one_of (codes "draw") rows ≡ Some (flag_text drawn)
-  pub limit : AsksLimit events rows
-
--- whether --draw asks for a picture and --all for all entries of the views of a fault, and the limit of events
-pub record AsksExplanationWithin (events : ℕ) (drawn whole : Bool) (rows : List Row) : Type 0 where
-  pub picture : AsksPictureWithin events drawn rows
-  pub whole_is : one_of (codes "all") rows ≡ Some (flag_text whole)
-
--- what `explain` asks for if no limit is chosen
-abbrev pub AsksExplanation : Bool → Bool → List Row → Type 0
-AsksExplanation = AsksExplanationWithin event_limit
-
--- what a picture asks for if no limit is chosen
-abbrev pub AsksPicture : Bool → List Row → Type 0
-AsksPicture = AsksPictureWithin event_limit
 
 -- the files that are named, or none if the word is absent
 abbrev pub given_or_none : Option (List Text) → List Text
@@ -244,16 +234,20 @@ SaysColor (Some text) color = text ≡ color_text color
 abbrev pub usual_window : ℕ → ℕ
 usual_window events = min 1000 (events - events / 2)
 
+-- the number of records that may wait if --late is not given
+abbrev pub usual_late : ℕ
+usual_late = 1000
+
 -- an option with this text, or without one, says this number, or the usual one
 abbrev pub SaysOr : ℕ → Option Text → ℕ → Type 0
 SaysOr usual None n = n ≡ usual
 SaysOr usual (Some text) n = text ≡ decimal n
 
--- whether --window or --idle is given
+-- whether --window, --idle or --late is given
 abbrev pub names_windows : List Row → Bool
-names_windows rows = is_some (first_of (codes "window") rows) || is_some (first_of (codes "idle") rows)
+names_windows rows = is_some (first_of (codes "window") rows) || is_some (first_of (codes "idle") rows) || is_some (first_of (codes "late") rows)
 
--- --window or --idle is given, and --follow is not: that asks for no job
+-- --window, --idle or --late is given, and --follow is not: that asks for no job
 pub record LacksFollow (rows : List Row) : Type 0 where
   pub no_follow : one_of (codes "follow") rows ≡ Some (flag_text false)
   pub windows_named : names_windows rows ≡ true
@@ -302,6 +296,7 @@ pub record AsksFollow (events : ℕ) (rows : List Row) (windows : Windows) : Typ
   pub views_fit : AreViews events windows.views
   pub window_fits : IsWindow events windows.least
   pub idle_fits : windows.idle ≤ NUMBER_LIMIT
+  pub late_fits : windows.late ≤ event_cap
   pub one_file : length (files_of rows) ≤ 1
   pub follow_is : one_of (codes "follow") rows ≡ Some (flag_text true)
   pub all_heeded : names_unheeded rows ≡ false
@@ -312,6 +307,7 @@ pub record AsksFollow (events : ℕ) (rows : List Row) (windows : Windows) : Typ
   pub views_are : one_of (codes "views") rows ≡ Some (decimal windows.views)
   pub window_is : SaysOr (usual_window events) (one_of (codes "window") rows) windows.least
   pub idle_is : SaysOr 0 (one_of (codes "idle") rows) windows.idle
+  pub late_is : SaysOr usual_late (one_of (codes "late") rows) windows.late
 
 -- the rounds if --rounds is not given: 16, or as many as the limit of events allows, if that is less
 abbrev pub usual_rounds : ℕ → ℕ

@@ -1,5 +1,8 @@
 pub mod CommandLine
+pub mod Parts
 pub mod Drawing
+pub mod Shrinking
+pub mod Explaining
 pub mod Inputs
 pub mod Jobs
 pub mod Lines

@@ -66,7 +66,7 @@ how many have each status, with the first of them. Not with --quiet, and not wit
 With --follow one recording is judged while it grows, window by window: a file, or all *.csv below a
 folder. Each window ends at a moment at which no call is open, and the next one begins from what was
 left. Each is answered by a line, and the sums come at the end. With --idle N that is when nothing has
-come for N seconds. Not with --quiet, --format json or junit, or --summary, nor with --pieces, --workers
+come for N seconds. Records with stamps may come up to 1,000 records late, or N with --late N. Not with --quiet, --format json or junit, or --summary, nor with --pieces, --workers
 or --color.
 
 On a terminal a line on standard error shows how far it is, where there are more than 100 files or a
@@ -92,7 +92,7 @@ const WORDS: &[Word<'static>] = &[
             least: 1,
             most: PIECE_LIMIT as i64,
         },
-        help: "Into how many pieces the views of a long history are cut, from 1 to 1024: 256 where it is not given",
+        help: "Into how many pieces the views of a long history are cut, from 1 to 1024: where it is not given, 256, or 1 for one worker",
     },
     Word {
         id: "workers",
@@ -191,6 +191,17 @@ const WORDS: &[Word<'static>] = &[
             most: NUMBER_LIMIT as i64,
         },
         help: "With --follow, end once nothing has come for so long; else, and of 0, wait for ever",
+    },
+    Word {
+        id: "late",
+        long: Some("late"),
+        short: None,
+        takes: Takes::Number {
+            name: "N",
+            least: 0,
+            most: EVENT_CAP as i64,
+        },
+        help: "With --follow, let N records with stamps wait, so that a record may come so many records late: 1000 where it is not given",
     },
     Word {
         id: "no-progress",

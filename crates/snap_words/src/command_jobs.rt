@@ -2,19 +2,24 @@
 ghost use Rattle.std.specs.Prelude.{◌≡◌, ℕ, Bool, List, Some, codes, IfSome, IsNone, IsSomeAnd, true, false};
 ghost use Rattle.clap.specs.Words.{Row, Text, found_of, rows_of};
 ghost use Rattle.snap_words.specs.Drawing.{AsksDrawWithin};
+ghost use Rattle.snap_words.specs.Explaining.{AsksExplanationWithin, DrawsFaults};
 ghost use Rattle.snap_words.specs.Inputs.{IsInputOf};
+ghost use Rattle.snap_words.specs.Shrinking.{AsksShrinkWithin, DrawsMap};
 ghost use Rattle.snap_words.specs.inside.Found.{FindsJob};
-ghost use Rattle.snap_words.specs.Jobs.{AsksCheck, AsksExplanationWithin, AsksFollow, AsksPictureWithin, AsksRecordWithin, AsksStatsWithin, AsksTooManyRounds, Checking, Flags, FollowsUnheeding, IsCheck, IsDraw, IsExplain, IsFollow, IsInRange, IsRecord, IsShrink, IsStats, LacksFollow, NamesInputTwice, files_of, first_name, text_of, texts_of};
+ghost use Rattle.snap_words.specs.Jobs.{AsksCheck, AsksFollow, AsksRecordWithin, AsksStatsWithin, AsksTooManyRounds, Checking, Flags, FollowsUnheeding, IsCheck, IsDraw, IsExplain, IsFollow, IsInRange, IsRecord, IsShrink, IsStats, LacksFollow, NamesInputTwice, files_of, first_name, text_of, texts_of};
 ghost use Rattle.snap_words.specs.declared.job.Windows.{Windows};
 
 use crate::color::color_in;
-use crate::drawing::{Form, form_in};
+use crate::drawing::{Form, Part, form_in, part_in};
 use crate::format::{format_in, is_plain, json_in};
 use crate::input::{Input, inputs_among};
 use crate::job::{Job, Options, Windows};
 use crate::option_values::{events_in, flag_in, is_given, limit_in, number_in, number_or};
-use crate::ranges::{are_rounds, are_views, is_one_form, is_window, rounds_for, window_for};
+use crate::ranges::{
+    are_faults, are_rounds, are_views, is_one_form, is_window, rounds_for, window_for,
+};
 use crate::refusals::{names_unheeded, names_windows};
+use crate::shrunk::{Shrunk, shrunk_in};
 use clap::ArgMatches;
 use snap_record::{LEAST_WORKERS, WORKER_LIMIT};
 use snap_threads::Cutting;
@@ -23,6 +28,9 @@ use snap_threads::Cutting;
 const USUAL_PIECES: u32 = 8;
 
 const USUAL_WORKERS: u32 = 2;
+
+// The records that wait if no option says it.
+const USUAL_LATE: u32 = 1000;
 
 // The options of `check` besides its cutting and its limit.
 fn options_in(matches: &ArgMatches<'_>) -> Option<Options>
@@ -116,12 +124,18 @@ fn follow_in(matches: &ArgMatches<'_>, input: Input) -> Option<Job>
     let views = number_in(matches, "views")?;
     let least = number_or(matches, "window", window_for(events));
     let idle = number_or(matches, "idle", 0);
+    let late = number_or(matches, "late", USUAL_LATE);
     if !follows_alone(matches, &input) || !are_views(events, views) || !is_window(events, least) {
         return None;
     }
     Some(Job::Follow {
         limit,
-        windows: Windows { least, idle, views },
+        windows: Windows {
+            least,
+            idle,
+            late,
+            views,
+        },
         file: input.into_file(),
     })
 }
@@ -174,34 +188,51 @@ fn record_in(matches: &ArgMatches<'_>) -> Option<Job>
 // The drawing that the options of `draw` ask for.
 fn draw_in(matches: &ArgMatches<'_>, file: Option<Vec<u8>>) -> Option<Job>
     ensures job { IfSome result IsInRange }
-    ensures asked { (events : ℕ) (form : Form) (files : List Text) → text_of file ≡ first_name files → AsksDrawWithin events (rows_of (found_of matches.now)) form → IsSomeAnd result (IsDraw events form files) }
+    ensures asked { (events : ℕ) (form : Form) (part : Part) (files : List Text) → text_of file ≡ first_name files → AsksDrawWithin events (rows_of (found_of matches.now)) form part → IsSomeAnd result (IsDraw events form part files) }
 {
     let form = form_in(matches)?;
+    let part = part_in(matches, form)?;
     let limit = limit_in(matches)?;
-    Some(Job::Draw { form, limit, file })
+    Some(Job::Draw {
+        form,
+        part,
+        limit,
+        file,
+    })
 }
 
 // The witness that the options of `shrink` ask for.
 fn shrink_in(matches: &ArgMatches<'_>, file: Option<Vec<u8>>) -> Option<Job>
     ensures job { IfSome result IsInRange }
-    ensures asked { (events : ℕ) (drawn : Bool) (files : List Text) → text_of file ≡ first_name files → AsksPictureWithin events drawn (rows_of (found_of matches.now)) → IsSomeAnd result (IsShrink events drawn files) }
+    ensures asked { (events : ℕ) (shrunk : Shrunk) (files : List Text) → text_of file ≡ first_name files → AsksShrinkWithin events shrunk (rows_of (found_of matches.now)) → IsSomeAnd result (IsShrink events shrunk files) }
+    ensures both { DrawsMap (rows_of (found_of matches.now)) → IsNone result }
 {
-    let drawn = flag_in(matches, "draw");
+    let shrunk = shrunk_in(matches)?;
     let limit = limit_in(matches)?;
-    Some(Job::Shrink { drawn, limit, file })
+    Some(Job::Shrink {
+        shrunk,
+        limit,
+        file,
+    })
 }
 
 // The explanation that the options of `explain` ask for.
 fn explain_in(matches: &ArgMatches<'_>, file: Option<Vec<u8>>) -> Option<Job>
     ensures job { IfSome result IsInRange }
-    ensures asked { (events : ℕ) (drawn whole : Bool) (files : List Text) → text_of file ≡ first_name files → AsksExplanationWithin events drawn whole (rows_of (found_of matches.now)) → IsSomeAnd result (IsExplain events drawn whole files) }
+    ensures asked { (events : ℕ) (drawn whole : Bool) (faults : ℕ) (files : List Text) → text_of file ≡ first_name files → AsksExplanationWithin events drawn whole faults (rows_of (found_of matches.now)) → IsSomeAnd result (IsExplain events drawn whole faults files) }
+    ensures several { DrawsFaults (rows_of (found_of matches.now)) → IsNone result }
 {
     let drawn = flag_in(matches, "draw");
     let whole = flag_in(matches, "all");
+    let faults = number_in(matches, "faults")?;
     let limit = limit_in(matches)?;
+    if !are_faults(faults, drawn) {
+        return None;
+    }
     Some(Job::Explain {
         drawn,
         whole,
+        faults,
         limit,
         file,
     })

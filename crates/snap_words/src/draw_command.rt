@@ -5,8 +5,10 @@ ghost use Rattle.clap.specs.declared.builder.command.Command.TheViews.{out-Comma
 ghost use Rattle.snap_words.specs.CommandLine.{draw_app};
 
 use crate::command::command_of;
+use crate::drawing::MOST_CALLS;
 use crate::word::{EVENTS, FILE, Takes, Word};
 use clap::Command;
+use snap_core::EVENT_CAP;
 use std::alloc::{AllocError, Global};
 
 const ABOUT: &str =
@@ -21,6 +23,9 @@ with its records.
 
 Of a history of more than 60 calls a window of 60 is drawn: the calls of the first faults, and
 the first others that overlap one of them. Where there is no fault, these are the first calls.
+--calls chooses another number, from 1 to 2000. --from begins the window with a call, and --around
+has half of the window before the call. Calls have the numbers that a report and a picture show.
+A page of a longer history holds up to 2000 calls, and goes through them window by window.
 
 With --svg only the picture is written, without the page around it, as for a document. With
 --text the picture is made of lines of characters, as for a terminal or a mail, of at most 12
@@ -34,6 +39,7 @@ either is so always. For a picture in dots, `rsvg-convert run.svg > run.png` mak
     snapjudge draw run.csv > run.html
     snapjudge draw --svg run.csv > run.svg
     snapjudge draw --text run.csv
+    snapjudge draw --around 1234 run.csv > run.html
 
 Exit status:
     0  the history is atomic
@@ -41,7 +47,7 @@ Exit status:
     2  it is not regular
     3  the text is not a history: the one line that is written names the record and its fault
     4  reading, writing or memory failed, or the file can't be opened
-    5  the words of the command line were not taken";
+    5  the words of the command line were not taken, or the history has no call of that number";
 
 const WORDS: &[Word<'static>] = &[
     Word {
@@ -71,6 +77,39 @@ const WORDS: &[Word<'static>] = &[
         short: None,
         takes: Takes::Nothing,
         help: "Draw with light ink on a dark ground; not with --light or --text",
+    },
+    Word {
+        id: "calls",
+        long: Some("calls"),
+        short: None,
+        takes: Takes::Number {
+            name: "N",
+            least: 1,
+            most: MOST_CALLS as i64,
+        },
+        help: "How many calls a window has, from 1 to 2000, or with --text to 12",
+    },
+    Word {
+        id: "from",
+        long: Some("from"),
+        short: None,
+        takes: Takes::Number {
+            name: "CALL",
+            least: 1,
+            most: EVENT_CAP as i64,
+        },
+        help: "Begin the window with this call",
+    },
+    Word {
+        id: "around",
+        long: Some("around"),
+        short: None,
+        takes: Takes::Number {
+            name: "CALL",
+            least: 1,
+            most: EVENT_CAP as i64,
+        },
+        help: "Draw the calls around this one; not with --from",
     },
     EVENTS,
     FILE,

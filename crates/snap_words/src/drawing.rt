@@ -1,11 +1,14 @@
 //! The forms of a picture, and the words that ask for one.
-ghost use Rattle.std.specs.Prelude.{◌≡◌, ℕ, Some};
+ghost use Rattle.std.specs.Prelude.{◌≡◌, ℕ, IfSome, Some, true};
 ghost use Rattle.clap.specs.Words.{found_of, rows_of};
-ghost use Rattle.snap_words.specs.Drawing.{AsksDrawWithin, AsksScheme};
+ghost use Rattle.snap_words.specs.Drawing.{AsksDrawWithin, AsksPlace, AsksScheme};
+ghost use Rattle.snap_words.specs.Parts.{HasRoom, most_calls as spec_most_calls};
 ghost use Rattle.snap_words.specs.declared.drawing.Form.{Form};
+ghost use Rattle.snap_words.specs.declared.drawing.Part.{Part};
+ghost use Rattle.snap_words.specs.declared.drawing.Place.{Place};
 ghost use Rattle.snap_words.specs.declared.drawing.Scheme.{Scheme};
 
-use crate::option_values::flag_in;
+use crate::option_values::{flag_in, number_in};
 use clap::ArgMatches;
 
 /// The colours of a picture.
@@ -28,6 +31,79 @@ pub enum Form {
     Svg(Scheme),
     /// Lines of characters, which have no colours.
     Lines,
+}
+
+/// Where the calls are that are drawn. Calls are counted from 1.
+#[derive(Clone, Copy, PartialEq, Eq, Debug)]
+pub enum Place {
+    /// At the first faults, or at the begin if there is no fault.
+    Faults,
+    /// From a call on.
+    From(u32),
+    /// Around a call.
+    Around(u32),
+}
+
+/// Which calls of a history are drawn: how many, which is the usual number of a form if it is absent, and where.
+#[derive(Clone, Copy, PartialEq, Eq, Debug)]
+pub struct Part {
+    pub calls: Option<u32>,
+    pub place: Place,
+}
+
+/// The most calls that a page or SVG may be asked for.
+pub const MOST_CALLS: u32 = 2000;
+
+/// The most calls that lines of characters may be asked for.
+pub const MOST_IN_LINES: u32 = 12;
+
+/// The most calls that a form may be asked for.
+pub(crate) fn most_calls(form: Form) -> u32
+    ensures { result ≡ spec_most_calls form }
+{
+    match form {
+        Form::Page(_) | Form::Svg(_) => MOST_CALLS,
+        Form::Lines => MOST_IN_LINES,
+    }
+}
+
+/// Whether a form has room for as many calls as are asked for.
+pub(crate) fn has_room(form: Form, calls: Option<u32>) -> bool
+    ensures one { result ≡ true → HasRoom form calls }
+    ensures asked { HasRoom form calls → result ≡ true }
+{
+    match calls {
+        Some(calls) => 1 <= calls && calls <= most_calls(form),
+        None => true,
+    }
+}
+
+// The place that --from or --around asks for, or nothing if both are given.
+fn place_in(matches: &ArgMatches<'_>) -> Option<Place>
+    ensures { (place : Place) → AsksPlace (rows_of (found_of matches.now)) place → result ≡ Some place }
+{
+    let from = number_in(matches, "from");
+    let around = number_in(matches, "around");
+    match (from, around) {
+        (Some(_), Some(_)) => None,
+        (Some(call), None) => Some(Place::From(call)),
+        (None, Some(call)) => Some(Place::Around(call)),
+        (None, None) => Some(Place::Faults),
+    }
+}
+
+/// The part that the options of `draw` ask for in a form. Nothing if they ask for two places, or for more calls than have room.
+pub(crate) fn part_in(matches: &ArgMatches<'_>, form: Form) -> Option<Part>
+    ensures room { IfSome result (λ part. HasRoom form part.calls) }
+    ensures asked { (events : ℕ) (part : Part) → AsksDrawWithin events (rows_of (found_of matches.now)) form part → result ≡ Some part }
+{
+    let calls = number_in(matches, "calls");
+    let place = place_in(matches)?;
+    if has_room(form, calls) {
+        Some(Part { calls, place })
+    } else {
+        None
+    }
 }
 
 // The colours that the flags of `draw` ask for, or nothing if they ask for two.
@@ -59,7 +135,7 @@ fn lines_in(scheme: Scheme) -> Option<Form>
 
 /// The form that the flags of `draw` ask for, or nothing if they ask for two, or for lines with colours.
 pub(crate) fn form_in(matches: &ArgMatches<'_>) -> Option<Form>
-    ensures { (events : ℕ) (form : Form) → AsksDrawWithin events (rows_of (found_of matches.now)) form → result ≡ Some form }
+    ensures { (events : ℕ) (form : Form) (part : Part) → AsksDrawWithin events (rows_of (found_of matches.now)) form part → result ≡ Some form }
 {
     let svg = flag_in(matches, "svg");
     let text = flag_in(matches, "text");

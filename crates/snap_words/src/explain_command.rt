@@ -5,7 +5,7 @@ ghost use Rattle.clap.specs.declared.builder.command.Command.TheViews.{out-Comma
 ghost use Rattle.snap_words.specs.CommandLine.{explain_app};
 
 use crate::command::command_of;
-use crate::word::{EVENTS, FILE, Takes, Word};
+use crate::word::{EVENTS, FAULT_LIMIT, FILE, Takes, Word};
 use clap::Command;
 use std::alloc::{AllocError, Global};
 
@@ -38,6 +38,9 @@ it makes
 Of an atomic history it writes the calls in an order that explains each view. Of a text that
 is not a history it says which rule is broken, and which record breaks it.
 
+With --faults N it tells of more than one fault of a kind: of each kind the first fault of
+each of the first N views that have one. The kinds come one after the other.
+
 Of a view with more than 16 entries it lists those of the fault's components, and counts the
 others. With --all it lists all.
 
@@ -66,6 +69,18 @@ const WORDS: &[Word<'static>] = &[
         short: None,
         takes: Takes::Nothing,
         help: "List all entries of the views of a fault",
+    },
+    Word {
+        id: "faults",
+        long: Some("faults"),
+        short: None,
+        takes: Takes::NumberOr {
+            name: "N",
+            least: 1,
+            most: FAULT_LIMIT as i64,
+            usual: "1",
+        },
+        help: "Of how many views with a fault of a kind to tell, from 1 to 1000; not with --draw",
     },
     EVENTS,
     FILE,

@@ -2,10 +2,14 @@
 ghost use Rattle.std.specs.Prelude.{◌≡◌, ℕ, Bool, List, [], codes, IfOk, IsErr, MatchResult, map, string_bytes};
 ghost use Rattle.clap.specs.Words.{Text};
 ghost use Rattle.snap_words.specs.Drawing.{AsksDrawWithin};
-ghost use Rattle.snap_words.specs.Jobs.{AsksCheck, AsksExplanationWithin, AsksFollow, AsksPictureWithin, AsksRecordWithin, AsksStatsWithin, AsksTooManyRounds, Checking, Flags, FollowsUnheeding, IsCheck, IsDraw, IsExplain, IsFollow, IsInRange, IsRecord, IsShrink, IsStats, LacksFollow, NamesInputTwice};
+ghost use Rattle.snap_words.specs.Explaining.{AsksExplanationWithin, DrawsFaults};
+ghost use Rattle.snap_words.specs.Jobs.{AsksCheck, AsksFollow, AsksRecordWithin, AsksStatsWithin, AsksTooManyRounds, Checking, Flags, FollowsUnheeding, IsCheck, IsDraw, IsExplain, IsFollow, IsInRange, IsRecord, IsShrink, IsStats, LacksFollow, NamesInputTwice};
 ghost use Rattle.snap_words.specs.Lines.{Means};
+ghost use Rattle.snap_words.specs.Shrinking.{AsksShrinkWithin, DrawsMap};
 ghost use Rattle.snap_words.specs.declared.drawing.Form.{Form};
+ghost use Rattle.snap_words.specs.declared.drawing.Part.{Part};
 ghost use Rattle.snap_words.specs.declared.job.Windows.{Windows};
+ghost use Rattle.snap_words.specs.declared.shrunk.Shrunk.{Shrunk};
 
 use crate::input::Input;
 use crate::job::{Job, JobFault, job_of};
@@ -164,24 +168,36 @@ fn whole_job(job: Job, others: &[Vec<u8>]) -> Result<Job, AllocError>
             windows,
             file: whole_name(file, others)?,
         },
-        Job::Shrink { drawn, limit, file } => Job::Shrink {
-            drawn,
+        Job::Shrink {
+            shrunk,
+            limit,
+            file,
+        } => Job::Shrink {
+            shrunk,
             limit,
             file: whole_name(file, others)?,
         },
         Job::Explain {
             drawn,
             whole,
+            faults,
             limit,
             file,
         } => Job::Explain {
             drawn,
             whole,
+            faults,
             limit,
             file: whole_name(file, others)?,
         },
-        Job::Draw { form, limit, file } => Job::Draw {
+        Job::Draw {
             form,
+            part,
+            limit,
+            file,
+        } => Job::Draw {
+            form,
+            part,
             limit,
             file: whole_name(file, others)?,
         },
@@ -244,15 +260,17 @@ pub fn wanted_by(alloc: Global, words: Words) -> Result<Job, JobFault>
         → MatchResult result (IsFollow events windows files) (λ fault. fault ≡ JobFault.Memory) }
     ensures unfollowed { (files : List Text) → Means (map string_bytes words.texts.items) (codes "check") LacksFollow files → IsErr result }
     ensures unheeded { (files : List Text) → Means (map string_bytes words.texts.items) (codes "check") FollowsUnheeding files → IsErr result }
-    ensures shrink { (events : ℕ) (drawn : Bool) (files : List Text) → words.others.items ≡ []
-        → Means (map string_bytes words.texts.items) (codes "shrink") (AsksPictureWithin events drawn) files
-        → MatchResult result (IsShrink events drawn files) (λ fault. fault ≡ JobFault.Memory) }
-    ensures explain { (events : ℕ) (drawn whole : Bool) (files : List Text) → words.others.items ≡ []
-        → Means (map string_bytes words.texts.items) (codes "explain") (AsksExplanationWithin events drawn whole) files
-        → MatchResult result (IsExplain events drawn whole files) (λ fault. fault ≡ JobFault.Memory) }
-    ensures draw { (events : ℕ) (form : Form) (files : List Text) → words.others.items ≡ []
-        → Means (map string_bytes words.texts.items) (codes "draw") (λ rows. AsksDrawWithin events rows form) files
-        → MatchResult result (IsDraw events form files) (λ fault. fault ≡ JobFault.Memory) }
+    ensures shrink { (events : ℕ) (shrunk : Shrunk) (files : List Text) → words.others.items ≡ []
+        → Means (map string_bytes words.texts.items) (codes "shrink") (AsksShrinkWithin events shrunk) files
+        → MatchResult result (IsShrink events shrunk files) (λ fault. fault ≡ JobFault.Memory) }
+    ensures drawn_map { (files : List Text) → Means (map string_bytes words.texts.items) (codes "shrink") DrawsMap files → IsErr result }
+    ensures explain { (events : ℕ) (drawn whole : Bool) (faults : ℕ) (files : List Text) → words.others.items ≡ []
+        → Means (map string_bytes words.texts.items) (codes "explain") (AsksExplanationWithin events drawn whole faults) files
+        → MatchResult result (IsExplain events drawn whole faults files) (λ fault. fault ≡ JobFault.Memory) }
+    ensures drawn_faults { (files : List Text) → Means (map string_bytes words.texts.items) (codes "explain") DrawsFaults files → IsErr result }
+    ensures draw { (events : ℕ) (form : Form) (part : Part) (files : List Text) → words.others.items ≡ []
+        → Means (map string_bytes words.texts.items) (codes "draw") (λ rows. AsksDrawWithin events rows form part) files
+        → MatchResult result (IsDraw events form part files) (λ fault. fault ≡ JobFault.Memory) }
     ensures stats { (events : ℕ) (json : Bool) (files : List Text) → words.others.items ≡ []
         → Means (map string_bytes words.texts.items) (codes "stats") (AsksStatsWithin events json) files
         → MatchResult result (IsStats events json files) (λ fault. fault ≡ JobFault.Memory) }

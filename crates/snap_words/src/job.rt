@@ -2,17 +2,20 @@
 ghost use Rattle.std.specs.Prelude.{◌≡◌, ℕ, Bool, List, Some, codes, IfOk, IsErr, MatchResult, map, string_bytes};
 ghost use Rattle.clap.specs.Words.{Row, Text, kind_of, subcommand_rows_of};
 ghost use Rattle.snap_words.specs.Drawing.{AsksDrawWithin};
-ghost use Rattle.snap_words.specs.Jobs.{AsksCheck, AsksExplanationWithin, AsksFollow, AsksPictureWithin, AsksRecordWithin, AsksStatsWithin, AsksTooManyRounds, Checking, Flags, FollowsUnheeding, IsCheck, IsDraw, IsExplain, IsFollow, IsInRange, IsRecord, IsShrink, IsStats, LacksFollow, NamesInputTwice};
+ghost use Rattle.snap_words.specs.Explaining.{AsksExplanationWithin, DrawsFaults};
+ghost use Rattle.snap_words.specs.Jobs.{AsksCheck, AsksFollow, AsksRecordWithin, AsksStatsWithin, AsksTooManyRounds, Checking, Flags, FollowsUnheeding, IsCheck, IsDraw, IsExplain, IsFollow, IsInRange, IsRecord, IsShrink, IsStats, LacksFollow, NamesInputTwice};
 ghost use Rattle.snap_words.specs.inside.Found.{FindsGiven};
 ghost use Rattle.snap_words.specs.Lines.{Means};
+ghost use Rattle.snap_words.specs.Shrinking.{AsksShrinkWithin, DrawsMap};
 
 use crate::color::Color;
 use crate::command::program;
 use crate::command_jobs::job_in;
-use crate::drawing::Form;
+use crate::drawing::{Form, Part};
 use crate::format::Format;
 use crate::input::{Input, input_in};
 use crate::refusals::usage_of;
+use crate::shrunk::Shrunk;
 use clap::error::ErrorKind;
 use clap::{ArgMatches, Error};
 use snap_core::Limit;
@@ -45,6 +48,8 @@ pub struct Windows {
     pub least: u32,
     /// The seconds without anything new after which it ends, or 0 if it does not end so.
     pub idle: u32,
+    /// The most records with stamps that wait for others: 0 to the greatest limit of events.
+    pub late: u32,
     /// The least number of completed views of all windows together.
     pub views: u32,
 }
@@ -66,22 +71,25 @@ pub enum Job {
         windows: Windows,
         file: Option<Vec<u8>>,
     },
-    /// Cut a history down to a witness, or draw the witness.
+    /// Cut a history down to a witness, and write that, its picture, or which calls it keeps.
     Shrink {
-        drawn: bool,
+        shrunk: Shrunk,
         limit: Limit,
         file: Option<Vec<u8>>,
     },
-    /// Explain a history, with a picture or without, and with all entries of the views of a fault or without.
+    /// Explain a history, with a picture or without, and with all entries of the views of a fault or without. The first `faults`
+    /// views with a fault of a kind are told: 1 to 1,000, and 1 with a picture.
     Explain {
         drawn: bool,
         whole: bool,
+        faults: u32,
         limit: Limit,
         file: Option<Vec<u8>>,
     },
-    /// Draw a history.
+    /// Draw a part of a history.
     Draw {
         form: Form,
+        part: Part,
         limit: Limit,
         file: Option<Vec<u8>>,
     },
@@ -179,15 +187,17 @@ pub fn job_of(alloc: Global, words: Vec<String>) -> Result<Job, JobFault>
         → MatchResult result (IsFollow events windows files) (λ fault. fault ≡ JobFault.Memory) }
     ensures unfollowed { (files : List Text) → Means (map string_bytes words.items) (codes "check") LacksFollow files → IsErr result }
     ensures unheeded { (files : List Text) → Means (map string_bytes words.items) (codes "check") FollowsUnheeding files → IsErr result }
-    ensures shrink { (events : ℕ) (drawn : Bool) (files : List Text)
-        → Means (map string_bytes words.items) (codes "shrink") (AsksPictureWithin events drawn) files
-        → MatchResult result (IsShrink events drawn files) (λ fault. fault ≡ JobFault.Memory) }
-    ensures explain { (events : ℕ) (drawn whole : Bool) (files : List Text)
-        → Means (map string_bytes words.items) (codes "explain") (AsksExplanationWithin events drawn whole) files
-        → MatchResult result (IsExplain events drawn whole files) (λ fault. fault ≡ JobFault.Memory) }
-    ensures draw { (events : ℕ) (form : Form) (files : List Text)
-        → Means (map string_bytes words.items) (codes "draw") (λ rows. AsksDrawWithin events rows form) files
-        → MatchResult result (IsDraw events form files) (λ fault. fault ≡ JobFault.Memory) }
+    ensures shrink { (events : ℕ) (shrunk : Shrunk) (files : List Text)
+        → Means (map string_bytes words.items) (codes "shrink") (AsksShrinkWithin events shrunk) files
+        → MatchResult result (IsShrink events shrunk files) (λ fault. fault ≡ JobFault.Memory) }
+    ensures drawn_map { (files : List Text) → Means (map string_bytes words.items) (codes "shrink") DrawsMap files → IsErr result }
+    ensures explain { (events : ℕ) (drawn whole : Bool) (faults : ℕ) (files : List Text)
+        → Means (map string_bytes words.items) (codes "explain") (AsksExplanationWithin events drawn whole faults) files
+        → MatchResult result (IsExplain events drawn whole faults files) (λ fault. fault ≡ JobFault.Memory) }
+    ensures drawn_faults { (files : List Text) → Means (map string_bytes words.items) (codes "explain") DrawsFaults files → IsErr result }
+    ensures draw { (events : ℕ) (form : Form) (part : Part) (files : List Text)
+        → Means (map string_bytes words.items) (codes "draw") (λ rows. AsksDrawWithin events rows form part) files
+        → MatchResult result (IsDraw events form part files) (λ fault. fault ≡ JobFault.Memory) }
     ensures stats { (events : ℕ) (json : Bool) (files : List Text)
         → Means (map string_bytes words.items) (codes "stats") (AsksStatsWithin events json) files
         → MatchResult result (IsStats events json files) (λ fault. fault ≡ JobFault.Memory) }

@@ -18,13 +18,15 @@ mod ranges;
 mod record_command;
 mod refusals;
 mod shrink_command;
+mod shrunk;
 mod stats_command;
 mod word;
 
 pub use color::Color;
-pub use drawing::{Form, Scheme};
+pub use drawing::{Form, MOST_CALLS, MOST_IN_LINES, Part, Place, Scheme};
 pub use format::Format;
 pub use given::{Words, wanted_by, words_of};
 pub use input::{Input, names_input_twice};
 pub use job::{Job, JobFault, Options, Windows, job_of};
 pub use lines::{check_lines, picture_lines, record_lines, source_lines, stats_lines};
+pub use shrunk::Shrunk;

@@ -2,13 +2,17 @@
 ghost use Rattle.std.specs.Prelude.{◌∷◌, [], Some, codes, false, true};
 ghost use Rattle.clap.specs.Words.{Text};
 ghost use Rattle.snap_core.specs.Limits.{event_limit};
-ghost use Rattle.snap_words.specs.Drawing.{AsksDraw, AsksDrawWithin};
-ghost use Rattle.snap_words.specs.Jobs.{AsksCheck, AsksExplanation, AsksExplanationWithin, AsksFollow, AsksPicture, AsksPictureWithin, AsksRecord, AsksRecordWithin, AsksStats, AsksStatsWithin, AsksTooManyRounds, FollowsUnheeding, LacksFollow, NamesInputTwice, no_flags, no_options, plain_check};
+ghost use Rattle.snap_words.specs.Drawing.{AsksDraw, AsksDrawWithin, usual_part};
+ghost use Rattle.snap_words.specs.Explaining.{AsksExplanation, AsksExplanationWithin, DrawsFaults};
+ghost use Rattle.snap_words.specs.Jobs.{AsksCheck, AsksFollow, AsksRecord, AsksRecordWithin, AsksStats, AsksStatsWithin, AsksTooManyRounds, FollowsUnheeding, LacksFollow, NamesInputTwice, no_flags, no_options, plain_check};
 ghost use Rattle.snap_words.specs.Lines.{Means};
+ghost use Rattle.snap_words.specs.Shrinking.{AsksShrink, AsksShrinkWithin, DrawsMap};
 ghost use Rattle.snap_words.specs.declared.color.Color.TheVariants.{Never};
 ghost use Rattle.snap_words.specs.declared.drawing.Form.TheVariants.{Lines, Page, Svg};
+ghost use Rattle.snap_words.specs.declared.drawing.Place.TheVariants.{Around, From};
 ghost use Rattle.snap_words.specs.declared.drawing.Scheme.TheVariants.{Dark, Light, Reader};
 ghost use Rattle.snap_words.specs.declared.format.Format.TheVariants.{Json, Junit};
+ghost use Rattle.snap_words.specs.declared.shrunk.Shrunk.TheVariants.{Map, Picture, Witness};
 
 /// What lines of `check` ask for: 8 pieces and 2 workers if nothing else is said, and what each option says. If `--pieces 8` is said,
 /// the program chooses no other number. A window alone asks for no job. Neither does an option that has no use with `--follow`.
@@ -21,8 +25,10 @@ pub fn check_lines()
     ensures json { (name : Text) → Means (name ∷ codes "check" ∷ codes "--format" ∷ codes "json" ∷ []) (codes "check") (λ rows. AsksCheck rows (record plain_check { options = record no_options { format = Json } })) [] }
     ensures junit { (name : Text) → Means (name ∷ codes "check" ∷ codes "--format" ∷ codes "junit" ∷ []) (codes "check") (λ rows. AsksCheck rows (record plain_check { options = record no_options { format = Junit } })) [] }
     ensures summary { (name : Text) → Means (name ∷ codes "check" ∷ codes "--summary" ∷ []) (codes "check") (λ rows. AsksCheck rows (record plain_check { options = record no_options { summary = true } })) [] }
-    ensures follow { (name : Text) → Means (name ∷ codes "check" ∷ codes "--follow" ∷ codes "--window" ∷ codes "500" ∷ codes "--idle" ∷ codes "5" ∷ []) (codes "check") (λ rows. AsksFollow event_limit rows (record { least = 500; idle = 5; views = 0 })) [] }
-    ensures few { (name : Text) → Means (name ∷ codes "check" ∷ codes "--follow" ∷ codes "--events" ∷ codes "500" ∷ []) (codes "check") (λ rows. AsksFollow 500 rows (record { least = 250; idle = 0; views = 0 })) [] }
+    ensures follow { (name : Text) → Means (name ∷ codes "check" ∷ codes "--follow" ∷ codes "--window" ∷ codes "500" ∷ codes "--idle" ∷ codes "5" ∷ []) (codes "check") (λ rows. AsksFollow event_limit rows (record { least = 500; idle = 5; late = 1000; views = 0 })) [] }
+    ensures few { (name : Text) → Means (name ∷ codes "check" ∷ codes "--follow" ∷ codes "--events" ∷ codes "500" ∷ []) (codes "check") (λ rows. AsksFollow 500 rows (record { least = 250; idle = 0; late = 1000; views = 0 })) [] }
+    ensures late { (name : Text) → Means (name ∷ codes "check" ∷ codes "--follow" ∷ codes "--late" ∷ codes "20" ∷ []) (codes "check") (λ rows. AsksFollow event_limit rows (record { least = 1000; idle = 0; late = 20; views = 0 })) [] }
+    ensures late_unfollowed { (name : Text) → Means (name ∷ codes "check" ∷ codes "--late" ∷ codes "20" ∷ []) (codes "check") LacksFollow [] }
     ensures unfollowed { (name : Text) → Means (name ∷ codes "check" ∷ codes "--window" ∷ codes "500" ∷ []) (codes "check") LacksFollow [] }
     ensures color { (name : Text) → Means (name ∷ codes "check" ∷ codes "--color" ∷ codes "never" ∷ []) (codes "check") (λ rows. AsksCheck rows (record plain_check { options = record no_options { color = Never } })) [] }
     ensures events { (name : Text) → Means (name ∷ codes "check" ∷ codes "--events" ∷ codes "1048576" ∷ []) (codes "check") (λ rows. AsksCheck rows (record plain_check { events = 1048576 })) [] }
@@ -36,21 +42,28 @@ pub fn source_lines()
     ensures { (name : Text) → Means (name ∷ codes "check" ∷ codes "--files-from" ∷ codes "-" ∷ codes "-0" ∷ codes "-r" ∷ codes "runs" ∷ []) (codes "check") (λ rows. AsksCheck rows (record plain_check { list = Some (codes "-"); null = true; folder = Some (codes "runs") })) [] }
 {}
 
-/// What lines of `shrink`, `explain` and `draw` ask for.
+/// What lines of `shrink`, `explain` and `draw` ask for. A line that asks for a picture and for a map, or for a picture and for more than
+/// one fault of a kind, asks for no job.
 pub fn picture_lines()
-    ensures shrink_alone { (name : Text) → Means (name ∷ codes "shrink" ∷ []) (codes "shrink") (AsksPicture false) [] }
-    ensures shrink_drawn { (name : Text) → Means (name ∷ codes "shrink" ∷ codes "--draw" ∷ []) (codes "shrink") (AsksPicture true) [] }
-    ensures explain_alone { (name : Text) → Means (name ∷ codes "explain" ∷ []) (codes "explain") (AsksExplanation false false) [] }
-    ensures explain_drawn { (name : Text) → Means (name ∷ codes "explain" ∷ codes "--draw" ∷ []) (codes "explain") (AsksExplanation true false) [] }
-    ensures explain_all { (name : Text) → Means (name ∷ codes "explain" ∷ codes "--all" ∷ []) (codes "explain") (AsksExplanation false true) [] }
+    ensures shrink_alone { (name : Text) → Means (name ∷ codes "shrink" ∷ []) (codes "shrink") (AsksShrink Witness) [] }
+    ensures shrink_drawn { (name : Text) → Means (name ∷ codes "shrink" ∷ codes "--draw" ∷ []) (codes "shrink") (AsksShrink Picture) [] }
+    ensures shrink_mapped { (name : Text) → Means (name ∷ codes "shrink" ∷ codes "--map" ∷ []) (codes "shrink") (AsksShrink Map) [] }
+    ensures drawn_map { (name : Text) → Means (name ∷ codes "shrink" ∷ codes "--map" ∷ codes "--draw" ∷ []) (codes "shrink") DrawsMap [] }
+    ensures explain_alone { (name : Text) → Means (name ∷ codes "explain" ∷ []) (codes "explain") (AsksExplanation false false 1) [] }
+    ensures explain_drawn { (name : Text) → Means (name ∷ codes "explain" ∷ codes "--draw" ∷ []) (codes "explain") (AsksExplanation true false 1) [] }
+    ensures explain_all { (name : Text) → Means (name ∷ codes "explain" ∷ codes "--all" ∷ []) (codes "explain") (AsksExplanation false true 1) [] }
+    ensures explain_faults { (name : Text) → Means (name ∷ codes "explain" ∷ codes "--faults" ∷ codes "10" ∷ []) (codes "explain") (AsksExplanation false false 10) [] }
+    ensures drawn_faults { (name : Text) → Means (name ∷ codes "explain" ∷ codes "--draw" ∷ codes "--faults" ∷ codes "10" ∷ []) (codes "explain") DrawsFaults [] }
     ensures draw_alone { (name : Text) → Means (name ∷ codes "draw" ∷ []) (codes "draw") (λ rows. AsksDraw rows (Page Reader)) [] }
     ensures draw_light { (name : Text) → Means (name ∷ codes "draw" ∷ codes "--light" ∷ []) (codes "draw") (λ rows. AsksDraw rows (Page Light)) [] }
     ensures draw_svg { (name : Text) → Means (name ∷ codes "draw" ∷ codes "--svg" ∷ []) (codes "draw") (λ rows. AsksDraw rows (Svg Reader)) [] }
     ensures draw_dark { (name : Text) → Means (name ∷ codes "draw" ∷ codes "--svg" ∷ codes "--dark" ∷ []) (codes "draw") (λ rows. AsksDraw rows (Svg Dark)) [] }
     ensures draw_text { (name : Text) → Means (name ∷ codes "draw" ∷ codes "--text" ∷ []) (codes "draw") (λ rows. AsksDraw rows Lines) [] }
-    ensures shrink_events { (name : Text) → Means (name ∷ codes "shrink" ∷ codes "--events" ∷ codes "1048576" ∷ []) (codes "shrink") (AsksPictureWithin 1048576 false) [] }
-    ensures explain_events { (name : Text) → Means (name ∷ codes "explain" ∷ codes "--events" ∷ codes "1048576" ∷ []) (codes "explain") (AsksExplanationWithin 1048576 false false) [] }
-    ensures draw_events { (name : Text) → Means (name ∷ codes "draw" ∷ codes "--events" ∷ codes "1048576" ∷ []) (codes "draw") (λ rows. AsksDrawWithin 1048576 rows (Page Reader)) [] }
+    ensures shrink_events { (name : Text) → Means (name ∷ codes "shrink" ∷ codes "--events" ∷ codes "1048576" ∷ []) (codes "shrink") (AsksShrinkWithin 1048576 Witness) [] }
+    ensures explain_events { (name : Text) → Means (name ∷ codes "explain" ∷ codes "--events" ∷ codes "1048576" ∷ []) (codes "explain") (AsksExplanationWithin 1048576 false false 1) [] }
+    ensures draw_events { (name : Text) → Means (name ∷ codes "draw" ∷ codes "--events" ∷ codes "1048576" ∷ []) (codes "draw") (λ rows. AsksDrawWithin 1048576 rows (Page Reader) usual_part) [] }
+    ensures draw_from { (name : Text) → Means (name ∷ codes "draw" ∷ codes "--calls" ∷ codes "500" ∷ codes "--from" ∷ codes "5" ∷ []) (codes "draw") (λ rows. AsksDrawWithin event_limit rows (Page Reader) (record { calls = Some 500; place = From 5 })) [] }
+    ensures draw_around { (name : Text) → Means (name ∷ codes "draw" ∷ codes "--around" ∷ codes "5" ∷ []) (codes "draw") (λ rows. AsksDrawWithin event_limit rows (Page Reader) (record usual_part { place = Around 5 })) [] }
 {}
 
 /// What lines of `stats` ask for: lines, if nothing else is said. A line that names standard input twice asks for no job.

@@ -1,11 +1,12 @@
 //! Which numbers are in their ranges, and which options go together.
-ghost use Rattle.std.specs.Prelude.{◌≡◌, true};
+ghost use Rattle.std.specs.Prelude.{◌≡◌, ◌<◌, true, false};
 ghost use Rattle.snap_core.specs.Limits.{IsLimit};
 ghost use Rattle.snap_record.specs.Plans.{AreRoundsWithin};
-ghost use Rattle.snap_words.specs.Jobs.{AreViews, IsOneForm, IsWindow, usual_rounds, usual_window};
+ghost use Rattle.snap_words.specs.Jobs.{AreFaults, AreViews, IsOneForm, IsWindow, usual_rounds, usual_window};
 
 use crate::format::Format;
 use crate::job::Options;
+use crate::word::FAULT_LIMIT;
 use snap_record::WORKER_LIMIT;
 
 /// The greatest number of events of a round: two calls of each worker.
@@ -43,6 +44,19 @@ pub(crate) fn is_one_form(options: Options) -> bool
         !options.quiet && options.format == Format::Plain
     } else {
         !options.quiet || options.format == Format::Plain
+    }
+}
+
+/// Whether an explanation may have this many faults of a kind, with a picture or without. A picture goes with one fault.
+pub(crate) fn are_faults(faults: u32, drawn: bool) -> bool
+    ensures one { result ≡ true → AreFaults faults × (drawn ≡ true → faults ≡ 1) }
+    ensures asked { AreFaults faults → (drawn ≡ true → faults ≡ 1) → result ≡ true }
+    ensures several { 1 < faults → drawn ≡ true → result ≡ false }
+{
+    if drawn {
+        faults == 1
+    } else {
+        1 <= faults && faults <= FAULT_LIMIT
     }
 }
 

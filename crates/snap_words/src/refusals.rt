@@ -4,17 +4,18 @@ ghost use Rattle.clap.specs.Words.{found_of, rows_of};
 ghost use Rattle.snap_words.specs.Jobs.{names_unheeded, names_windows};
 
 use crate::color::color_in;
+use crate::drawing::{form_in, has_room, most_calls};
 use crate::format::{Format, format_in, json_in};
 use crate::option_values::{flag_in, is_given, number_in};
 use crate::ranges::{ROUND_EVENTS, are_rounds, are_views};
 use clap::ArgMatches;
 use std::alloc::{AllocError, Global};
 
-/// Whether an option of windows, --window or --idle, is given.
+/// Whether an option of windows, --window, --idle or --late, is given.
 pub(crate) fn names_windows(matches: &ArgMatches<'_>) -> bool
     ensures { result ≡ names_windows (rows_of (found_of matches.now)) }
 {
-    is_given(matches, "window") || is_given(matches, "idle")
+    is_given(matches, "window") || is_given(matches, "idle") || is_given(matches, "late")
 }
 
 /// Whether an option is given that has no use with --follow.
@@ -101,6 +102,8 @@ fn check_refusal(matches: &ArgMatches<'_>, format: Format) -> &'static str {
         "error: the argument '--window <N>' needs '--follow'\n"
     } else if is_given(matches, "idle") {
         "error: the argument '--idle <SECONDS>' needs '--follow'\n"
+    } else if is_given(matches, "late") {
+        "error: the argument '--late <N>' needs '--follow'\n"
     } else if let Some(refusal) = form_refusal(matches, format) {
         refusal
     } else if flag_in(matches, "null") && !is_given(matches, "list") {
@@ -121,7 +124,9 @@ fn stats_refusal(matches: &ArgMatches<'_>) -> &'static str {
 
 // Why a picture is not asked for.
 fn draw_refusal(matches: &ArgMatches<'_>) -> &'static str {
-    if flag_in(matches, "light") && flag_in(matches, "dark") {
+    if is_given(matches, "from") && is_given(matches, "around") {
+        "error: the argument '--from <CALL>' cannot be used with '--around <CALL>'\n"
+    } else if flag_in(matches, "light") && flag_in(matches, "dark") {
         "error: the argument '--light' cannot be used with '--dark'\n"
     } else if flag_in(matches, "svg") {
         "error: the argument '--svg' cannot be used with '--text'\n"
@@ -140,6 +145,12 @@ fn refusal_of(matches: &ArgMatches<'_>) -> &'static str {
     }
     if let Some(inner) = matches.subcommand_matches("stats") {
         return stats_refusal(inner);
+    }
+    if matches.subcommand_matches("shrink").is_some() {
+        return "error: the argument '--draw' cannot be used with '--map'\n";
+    }
+    if matches.subcommand_matches("explain").is_some() {
+        return "error: the argument '--draw' cannot be used with '--faults <N>'\n";
     }
     let Some(inner) = matches.subcommand_matches("check") else {
         return "error: the argument '--judge' cannot be used with '--stamped'\n";
@@ -195,10 +206,30 @@ fn check_range_refusal(
     }
 }
 
-// Says that a number is too great for the limit of events, which the parser does not know.
+// Says that a picture is asked for with more calls than its form has room for.
+fn draw_range_refusal(
+    alloc: Global,
+    matches: &ArgMatches<'_>,
+) -> Result<Option<String>, AllocError> {
+    let Some(form) = form_in(matches) else {
+        return Ok(None);
+    };
+    match number_in(matches, "calls") {
+        Some(calls) if !has_room(form, Some(calls)) => {
+            let text = range_refusal(alloc, "--calls <N>", calls, 1, most_calls(form))?;
+            Ok(Some(text))
+        }
+        _ => Ok(None),
+    }
+}
+
+// Says that a number is too great for another option, which the parser does not know.
 fn number_refusal(alloc: Global, matches: &ArgMatches<'_>) -> Result<Option<String>, AllocError> {
     if let Some(inner) = matches.subcommand_matches("check") {
         return check_range_refusal(alloc, inner);
+    }
+    if let Some(inner) = matches.subcommand_matches("draw") {
+        return draw_range_refusal(alloc, inner);
     }
     if let Some(inner) = matches.subcommand_matches("record") {
         let Some((rounds, events)) = number_and_events(inner, "rounds") else {

@@ -44,6 +44,15 @@ An atomic history has no fault, and is written as it is, without stamps.
 With --draw the picture of that history is written in its place, by lines of characters as
 `snapjudge draw --text` writes it. A picture is not a history, so it can't be judged.
 
+With --map a table is written in its place, with a line for each call of that history: its
+number, its process, and the records of its begin and its end, and then those that the call
+has in the history that was read. A pending call has no record of an end. Here the table is
+
+    call,process,begin,end,of call,of process,of begin,of end
+    1,0,2,7,2,0,4,9
+    2,1,3,4,3,1,5,6
+    3,2,5,6,4,2,7,8
+
 Exit status, of the history that was read:
     0  it is atomic
     1  it is regular, and not atomic
@@ -59,6 +68,13 @@ const WORDS: &[Word<'static>] = &[
         short: None,
         takes: Takes::Nothing,
         help: "Write the picture of the witness in its place",
+    },
+    Word {
+        id: "map",
+        long: Some("map"),
+        short: None,
+        takes: Takes::Nothing,
+        help: "Write which calls of the history the witness keeps in its place",
     },
     EVENTS,
     FILE,

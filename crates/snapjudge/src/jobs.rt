@@ -28,14 +28,24 @@ pub(crate) fn done<Rt: Threads + Wait + Sync>(
             windows,
             file,
         } => follow(rt, host, &file, limit, windows),
-        Job::Shrink { drawn, limit, file } => shrink(rt, host, &file, drawn, limit),
+        Job::Shrink {
+            shrunk,
+            limit,
+            file,
+        } => shrink(rt, host, &file, shrunk, limit),
         Job::Explain {
             drawn,
             whole,
+            faults,
             limit,
             file,
-        } => explain(rt, host, &file, drawn, whole, limit),
-        Job::Draw { form, limit, file } => draw(rt, host, &file, form, limit),
+        } => explain(rt, host, &file, drawn, whole, faults, limit),
+        Job::Draw {
+            form,
+            part,
+            limit,
+            file,
+        } => draw(rt, host, &file, form, part, limit),
         Job::Stats { json, limit, files } => count(rt, host, files, json, limit),
         Job::Record {
             workers,

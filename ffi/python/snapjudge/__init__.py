@@ -2,7 +2,7 @@
 
     judged = check(history)          # Judged: status, counts, faults with their calls, the printed order
     explain(history)                 # the sentences of `snapjudge explain`
-    shrink(history)                  # at most four of the calls, with the same fault
+    shrink(history)                  # at most four of the calls, with the same fault; with map=True which calls they are
     draw(history, "svg")             # a picture, or a page for a browser
     stats(history)                   # Stats: what the run has shown, such as how many views overlap an update
 
@@ -17,12 +17,13 @@ from __future__ import annotations
 
 import json
 
-from .library import EVENTS, MOST_EVENTS, STATUSES, NoLimit, TooLittleRoom, answer, answer_into, bytes_of
+from .library import EVENTS, MOST, MOST_EVENTS, MOST_FAULTS, STATUSES, NoLimit, TooLittleRoom, answer, answer_into, bytes_of
 from .values import Call, ComponentStats, Counts, Difference, Entry, Fault, Judged, Refused, Stats, Step, judged_of, stats_of
 
 __version__ = "1.0.0"
 __all__ = ["Refused", "TooLittleRoom", "NoLimit", "Judged", "Counts", "Entry", "Call", "Step", "Fault", "Difference", "Stats",
-           "ComponentStats", "check", "explain", "shrink", "draw", "stats", "report", "report_into", "EVENTS", "MOST_EVENTS", "STATUSES"]
+           "ComponentStats", "check", "explain", "shrink", "draw", "stats", "report", "report_into", "EVENTS", "MOST_EVENTS",
+           "MOST_FAULTS", "STATUSES"]
 
 # The forms of a picture, and its colours, by the numbers that the library has for them.
 FORMS = {"page": 0, "svg": 1, "text": 2}
@@ -46,26 +47,40 @@ def check(history, events: int | None = None) -> Judged:
     return judged_of(status, found, text, events)
 
 
-def explain(history, events: int | None = None, drawn: bool = False, whole: bool = False) -> str:
+def explain(history, events: int | None = None, drawn: bool = False, whole: bool = False, faults: int = 1) -> str:
     """What is wrong with a history, in sentences, with each call that a first fault concerns; of an atomic history an order of its
-    calls. With `drawn` a picture in characters is below. With `whole` all entries of the views of a fault are listed."""
-    return answer("explain", bytes_of(history), bool(drawn) + 2 * bool(whole), events=events)[1]
+    calls. With `drawn` a picture in characters is below. With `whole` all entries of the views of a fault are listed. With `faults`, from
+    1 to 1,000, it tells of each kind the first fault of each of the first so many views that have one; more than one without `drawn`."""
+    if not 1 <= faults <= MOST_FAULTS:
+        raise ValueError(f"the number of faults is from 1 to {MOST_FAULTS:,}, and not {faults}")
+    if faults == 1:
+        return answer("explain", bytes_of(history), bool(drawn) + 2 * bool(whole), events=events)[1]
+    if drawn:
+        raise ValueError("a picture goes with one fault of a kind")
+    return answer("explain_faults", bytes_of(history), int(bool(whole)), faults, events=events)[1]
 
 
-def shrink(history, events: int | None = None, drawn: bool = False) -> str:
+def shrink(history, events: int | None = None, drawn: bool = False, map: bool = False) -> str:
     """A witness: a history of at most four of the calls, with the same fault; of an atomic history itself. With `drawn` its picture in
-    characters instead."""
-    return answer("shrink", bytes_of(history), int(drawn), events=events)[1]
+    characters instead. With `map` a table instead, of its calls and of those of the history that they are."""
+    if drawn and map:
+        raise ValueError("a witness is drawn or mapped, and not both")
+    return answer("shrink", bytes_of(history), 2 if map else int(bool(drawn)), events=events)[1]
 
 
-def draw(history, form: str = "page", events: int | None = None, scheme: str | None = None) -> str:
+def draw(history, form: str = "page", events: int | None = None, scheme: str | None = None, calls: int | None = None,
+         first: int | None = None, around: int | None = None) -> str:
     """A picture of a history: as a `page` for a browser, as `svg`, or in characters as `text`. Without a scheme a page is light or dark
-    as the reader's system is, and `svg` is light. The scheme is `light` or `dark`; `text` takes none."""
+    as the reader's system is, and `svg` is light. The scheme is `light` or `dark`; `text` takes none. The picture has this number of
+    calls, from call `first` on or around call `around`, which are counted from 1. Raises ValueError if the history lacks the call."""
     if form not in FORMS:
         raise ValueError(f"a picture is {', '.join(FORMS)}, and not {form}")
     if scheme is not None and (form, scheme) not in SCHEMES:
         raise ValueError("a text has no colours" if form == "text" else f"the colours of a picture are light or dark, and not {scheme}")
-    return answer("draw", bytes_of(history), FORMS[form] if scheme is None else SCHEMES[form, scheme], events=events)[1]
+    if not all(number is None or 0 < number <= MOST for number in (calls, first, around)):
+        raise ValueError("calls are counted from 1")
+    number = FORMS[form] if scheme is None else SCHEMES[form, scheme]
+    return answer("draw_calls", bytes_of(history), number, calls or 0, first or 0, around or 0, events=events)[1]
 
 
 def stats(history, events: int | None = None) -> Stats:

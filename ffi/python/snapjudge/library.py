@@ -11,6 +11,8 @@ STATUSES = ("atomic", "regular", "irregular", "refused")
 NO_MEMORY, NO_ROOM, NO_LIMIT = 4, 5, 6
 # The usual limit of events, and the greatest.
 EVENTS, MOST_EVENTS = 65_536, 1_048_576
+# The greatest number of faults of a kind that an explanation tells of.
+MOST_FAULTS = 1000
 # The numbers that a call can be handed as a limit; the library says which of them it takes.
 MOST = 2**32 - 1
 
@@ -25,9 +27,11 @@ _CALLS = {
     "check": _TEXT + _ROOM,
     "check_limit": _TEXT + _NUMBER + _ROOM,
     "explain": _TEXT + _NUMBER + _NUMBER + _ROOM,
+    "explain_faults": _TEXT + _NUMBER + _NUMBER + _NUMBER + _ROOM,
     "json": _TEXT + _NUMBER + _TEXT + _ROOM,
     "shrink": _TEXT + _NUMBER + _NUMBER + _ROOM,
     "draw": _TEXT + _NUMBER + _NUMBER + _ROOM,
+    "draw_calls": _TEXT + _NUMBER + 4 * _NUMBER + _ROOM,
     "stats": _TEXT + _NUMBER + _NUMBER + _ROOM,
 }
 

@@ -4,7 +4,7 @@ use super::parts::put_parts;
 use super::points::{Point, spread};
 use super::scale::{WIDE, scaled, x_of, y_of};
 use crate::picture::Picture;
-use crate::words::label_of;
+use crate::words::short_label;
 use snap_report::put_number;
 use std::alloc::{AllocError, Global};
 
@@ -26,7 +26,7 @@ fn put_label_backs(
     width: usize,
 ) -> Result<(), AllocError> {
     for bar in &picture.shapes.bars {
-        let label = label_of(alloc, picture.index, bar)?;
+        let label = short_label(alloc, picture, bar)?;
         let shown = label.len().min(room_of(&picture.shapes.bars, bar, width));
         put_back(out, x_of(bar.begin), y_of(bar.lane, 3), shown)?;
     }

@@ -6,8 +6,8 @@ use crate::kinds::put_kinds;
 use crate::marks::{Mark, is_marked};
 use crate::picture::Picture;
 use crate::shapes::{Bar, Shapes};
-use crate::words::{label_of, put_cut, put_title, record_at};
-use snap_index::{CallOp, Index};
+use crate::words::{put_cut, put_title, record_at, short_label};
+use snap_index::CallOp;
 use snap_report::{put_call, put_number};
 use std::alloc::{AllocError, Global};
 
@@ -134,11 +134,11 @@ fn put_words(
 fn put_label(
     alloc: Global,
     out: &mut Vec<u8>,
-    index: &Index<'_>,
+    picture: &Picture<'_, '_>,
     bar: &Bar,
     room: usize,
 ) -> Result<(), AllocError> {
-    let label = label_of(alloc, index, bar)?;
+    let label = short_label(alloc, picture, bar)?;
     let place = (x_of(bar.begin), y_of(bar.lane, 13));
     put_words(out, b"<text class=\"label\" x=\"", place, &label, room)
 }
@@ -177,7 +177,7 @@ fn put_drawn(
 ) -> Result<(), AllocError> {
     put_names(out, picture, bar)?;
     put_bar(out, picture.shapes, bar)?;
-    put_label(alloc, out, picture.index, bar, room)?;
+    put_label(alloc, out, picture, bar, room)?;
     put_tag(alloc, out, &picture.shapes.marks, bar, room)?;
     out.extend_from_slice(b"</g>\n")
 }

@@ -66,10 +66,14 @@ pre { margin: 4px 0; white-space: pre-wrap; }
 #panel { border-left: 4px solid var(--quiet); margin: 8px 0; padding: 4px 10px; min-height: 104px; overflow-wrap: anywhere; }
 #panel p { margin: 4px 0 0; font-weight: bold; }
 #panel.is-fault { border-left: 8px double var(--fault); }
+.moves { margin: 6px 0; font-size: 13px; }
+#kinds label { margin-left: 8px; white-space: nowrap; }
+#held { margin: 6px 0; font-size: 13px; }
+[data-id=strip] .all, [data-id=strip] .window { pointer-events: all; }
 #legend { display: flex; flex-wrap: wrap; gap: 4px 18px; margin: 0; padding: 0; list-style: none; font-size: 13px; }
 #legend svg { vertical-align: middle; }
 #help { font-size: 13px; color: var(--quiet); margin: 8px 0 0; }
-@media print { body { max-width: none; padding: 0; } #view { overflow: visible; max-height: none; border: 0; } #view svg { width: 100% !important; height: auto !important; } #panel, #help { display: none; } }
+@media print { body { max-width: none; padding: 0; } #view { overflow: visible; max-height: none; border: 0; } #view svg { width: 100% !important; height: auto !important; } #panel, #help, .moves { display: none; } }
 </style>
 </head>
 <body>
@@ -78,9 +82,15 @@ pre { margin: 4px 0; white-space: pre-wrap; }
 <div id='view' tabindex='0' role='region' aria-label='The calls of the run, one bar each'>
 ";
 
-/// What a page has after its picture: the panel, the legend, and the script for keys and wheel.
-pub(crate) const TAIL: &[u8] = b"\
+/// What a page has after its picture: how to go on in a long run and from fault to fault.
+pub(crate) const MOVES: &[u8] = b"\
 </div>
+<p class='moves' id='pages' hidden><button id='earlier'>earlier</button> <button id='later'>later</button> <button id='first'>first picture</button> <span id='where'></span></p>
+<p class='moves' id='marks' hidden><button id='previous'>previous fault</button> <button id='next'>next fault</button> <span id='kinds'></span></p>
+";
+
+/// What a page has below that: the panel and the legend.
+pub(crate) const TAIL: &[u8] = b"\
 <div id='panel' role='status'><h2>No call is chosen</h2>Point at a bar, tap it, or go to it with <kbd>Tab</kbd>.</div>
 <ul id='legend'>
 <li data-of='.update'><svg width='34' height='14'><g class='update'><rect class='bar' x='3' y='3' width='28' height='8'/></g></svg> update</li>
@@ -90,114 +100,7 @@ pub(crate) const TAIL: &[u8] = b"\
 <li data-of='[data-id=order]'><svg width='34' height='14'><g style='fill: var(--line); stroke: var(--line)'><path d='M 3 7 H 31'/><circle cx='17' cy='7' r='4'/></g></svg> order: one that explains all views, a point where each call takes effect</li>
 <li data-of='[data-id=strip]'><svg width='34' height='14'><rect x='1' y='4' width='32' height='6' style='fill: var(--faint)'/><rect x='9' y='2' width='14' height='10' style='fill: none; stroke: var(--quiet); stroke-width: 1.5'/><path d='M 18 2 V 12' style='stroke: var(--fault); stroke-width: 3'/></svg> strip: the whole run, a frame around what is drawn, a mark where a fault begins</li>
 </ul>
-<p id='help'><kbd>+</kbd> <kbd>-</kbd> or the wheel: larger, smaller. <kbd>0</kbd>: the whole picture. Arrows or a drag: move. <kbd>Tab</kbd>: the next call. The numbers above the bars are the records of the text. <code>p0</code> is process 0. <code>0:1:7</code> is component 0, its update 1 and the value 7.</p>
-<script>
-'use strict';
-(function () {
-  const by = function (id) { return document.getElementById(id); };
-  const view = by('view'), run = view.querySelector('svg'), panel = by('panel');
-  const drawn = function (id) { return run.querySelector('[data-id=' + id + ']'); };
-  const calls = Array.from(run.querySelectorAll('.call'));
-  const marks = Array.from(run.querySelectorAll('.mark'));
-  const named = function (element) { const title = element.querySelector('title'); return title ? title.textContent : ''; };
-  const add = function (parent, kind, text) { const made = document.createElement(kind); made.textContent = text; parent.appendChild(made); };
-  const kindsOf = function (call) { return marks.filter(function (mark) { return call.classList.contains(mark.dataset.id); }); };
-
-  // The verdict and the faults stand as text above the picture, where they wrap.
-  document.documentElement.classList.add('script');
-  const verdict = drawn('verdict');
-  if (verdict) { by('heading').textContent = document.title = 'A run: ' + verdict.textContent; }
-  marks.forEach(function (mark) { add(by('faults'), 'li', named(mark)); });
-  by('faults').hidden = marks.length === 0;
-  // The legend explains what this picture has.
-  document.querySelectorAll('#legend li').forEach(function (item) { item.hidden = run.querySelector(item.dataset.of) === null; });
-  const box = run.getBBox();
-  const width = Math.ceil(box.x + box.width) + 12, top = Math.floor(box.y) - 12, height = Math.ceil(box.height) + 24;
-  run.setAttribute('viewBox', '0 ' + top + ' ' + width + ' ' + height);
-
-  // The panel shows a call, its records as the text has them, and the faults that it belongs to.
-  let chosen = null;
-  const show = function (call) {
-    const said = named(call), title = said.match(/of process ([0-9]+), .*?: (update|view) ?(.*)$/);
-    const places = call.dataset.records.split('-');
-    if (chosen) { chosen.classList.remove('chosen'); }
-    chosen = call;
-    call.classList.add('chosen');
-    panel.textContent = '';
-    add(panel, 'h2', said);
-    if (title) {
-      const isView = title[2] === 'view', start = ',' + title[1] + ',' + title[2] + ',';
-      const first = 'record ' + places[0] + ': begin' + start + (isView ? '' : title[3]);
-      const last = places[1] ? 'record ' + places[1] + ': end' + start + (isView ? title[3] : '') : 'no record ends it: the call is pending';
-      add(panel, 'pre', first + String.fromCharCode(10) + last);
-    }
-    kindsOf(call).forEach(function (mark) { add(panel, 'p', named(mark)); });
-    panel.classList.toggle('is-fault', kindsOf(call).length > 0);
-  };
-
-  let scale = 1;
-  const zoom = function (to, x, y) {
-    const next = Math.min(8, Math.max(0.05, to)), ratio = next / scale;
-    const left = (view.scrollLeft + x) * ratio - x, above = (view.scrollTop + y) * ratio - y;
-    scale = next;
-    run.style.width = width * scale + 'px';
-    run.style.height = height * scale + 'px';
-    view.scrollLeft = left;
-    view.scrollTop = above;
-  };
-  // The names of the lanes stay in sight.
-  const names = Array.from(run.querySelectorAll('.lane .name'));
-  names.forEach(function (name) { run.appendChild(name); });
-  const follow = function () { names.forEach(function (name) { name.setAttribute('x', 8 + view.scrollLeft / scale); }); };
-  view.addEventListener('scroll', follow);
-  const bring = function (call) {
-    const at = call.getBoundingClientRect(), room = view.getBoundingClientRect();
-    if (at.left < room.left || at.right > room.right) { view.scrollLeft += at.left - room.left - 70; }
-    if (at.top < room.top || at.bottom > room.bottom) { view.scrollTop += at.top - room.top - 20; }
-  };
-  const fit = function () { zoom(Math.min(view.clientWidth / width, 0.74 * window.innerHeight / height), 0, 0); };
-  const start = function () {
-    const whole = view.clientWidth / width;
-    zoom(Math.min(1.6, whole < 0.7 ? 1 : whole), 0, 0);
-    const fault = calls.find(function (call) { return kindsOf(call).length > 0; });
-    if (fault) { bring(fault); }
-  };
-
-  calls.forEach(function (call) {
-    call.addEventListener('pointerenter', function () { show(call); });
-    call.addEventListener('click', function () { show(call); });
-    call.addEventListener('focus', function () { show(call); bring(call); });
-  });
-  view.addEventListener('wheel', function (event) {
-    if (event.shiftKey) { return; }
-    const room = view.getBoundingClientRect();
-    event.preventDefault();
-    zoom(scale * Math.pow(1.0015, -event.deltaY), event.clientX - room.left, event.clientY - room.top);
-  }, { passive: false });
-  let held = null;
-  view.addEventListener('pointerdown', function (event) {
-    if (event.pointerType === 'mouse' && event.button === 0) { held = [event.clientX + view.scrollLeft, event.clientY + view.scrollTop]; }
-  });
-  window.addEventListener('pointermove', function (event) {
-    if (held) { view.scrollLeft = held[0] - event.clientX; view.scrollTop = held[1] - event.clientY; }
-  });
-  window.addEventListener('pointerup', function () { held = null; });
-  const moves = { ArrowLeft: [-60, 0], ArrowRight: [60, 0], ArrowUp: [0, -60], ArrowDown: [0, 60] };
-  document.addEventListener('keydown', function (event) {
-    if (event.ctrlKey || event.metaKey || event.altKey) { return; }
-    const x = view.clientWidth / 2, y = view.clientHeight / 2, move = moves[event.key];
-    if (event.key === '+' || event.key === '=') { zoom(scale * 1.25, x, y); }
-    else if (event.key === '-') { zoom(scale / 1.25, x, y); }
-    else if (event.key === '0') { fit(); }
-    else if (move && view.contains(document.activeElement)) { view.scrollLeft += move[0]; view.scrollTop += move[1]; }
-    else if (move && document.activeElement === document.body) { view.scrollLeft += move[0]; view.scrollTop += move[1]; }
-    else { return; }
-    event.preventDefault();
-  });
-  start();
-}());
-</script>
-</body>
+<p id='help'><kbd>+</kbd> <kbd>-</kbd> or the wheel: larger, smaller. <kbd>0</kbd>: the whole picture. Arrows or a drag: move. <kbd>Tab</kbd>: the next call. A click on the strip of a long run: that part of it. The numbers above the bars are the records of the text. <code>p0</code> is process 0. <code>0:1:7</code> is component 0, its update 1 and the value 7.</p>
 ";
 
 // Adds the colours of the whole page.

@@ -1,7 +1,7 @@
 //! The strip above a picture: where the window is in the run, and where the first faults are.
 use super::parts::put_parts;
 use super::scale::{LEFT, right_of};
-use crate::kinds::{KINDS, has_kind, word_of};
+use crate::kinds::{KINDS, word_of};
 use crate::marks::{Kind, Mark};
 use crate::shapes::{Bar, Shapes};
 use crate::words::record_at;
@@ -21,12 +21,13 @@ fn ends_of(bars: &[Bar]) -> (u32, u32) {
 }
 
 // The place of the first begin of the calls of the first fault of a kind.
-fn first_of(bars: &[Bar], marks: &[Mark], kind: Kind) -> Option<u32> {
+fn first_of(index: &Index<'_>, marks: &[Mark], kind: Kind) -> Option<u32> {
     let mut first = None;
-    for bar in bars {
-        if has_kind(marks, bar.drawn.number, kind) {
-            let begun = bar.drawn.call.begun;
-            first = Some(begun.min(first.unwrap_or(begun)));
+    for mark in marks {
+        if mark.kind == kind {
+            if let Some(call) = index.call(mark.call) {
+                first = Some(call.begun.min(first.unwrap_or(call.begun)));
+            }
         }
     }
     first
@@ -99,13 +100,13 @@ fn put_tick(out: &mut Vec<u8>, kind: Kind, x: u64) -> Result<(), AllocError> {
 // Adds a mark for each kind that has a fault.
 fn put_ticks(
     out: &mut Vec<u8>,
-    shapes: &Shapes,
-    events: u32,
+    index: &Index<'_>,
+    marks: &[Mark],
     width: u64,
 ) -> Result<(), AllocError> {
     for kind in &KINDS {
-        if let Some(place) = first_of(&shapes.bars, &shapes.marks, *kind) {
-            put_tick(out, *kind, along(place, events, width))?;
+        if let Some(place) = first_of(index, marks, *kind) {
+            put_tick(out, *kind, along(place, index.event_count(), width))?;
         }
     }
     Ok(())
@@ -122,6 +123,6 @@ pub(crate) fn put_strip(
     let ends = ends_of(&shapes.bars);
     put_span(out, records, ends, events)?;
     put_window(out, ends, events, width)?;
-    put_ticks(out, shapes, events, width)?;
+    put_ticks(out, index, &shapes.marks, width)?;
     out.extend_from_slice(b"</g>\n")
 }

@@ -4,9 +4,12 @@ use Rattle.snap_core.specs.declared.event.Event.{Event}
 use Rattle.snap_follow.specs.declared.answers.Answers.{Answers}
 use Rattle.snap_follow.specs.declared.course.Course.{Course}
 use Rattle.snap_follow.specs.declared.follow.Follow.{Follow}
+use Rattle.snap_follow.specs.declared.form.Form.TheVariants.{Stamped}
+use Rattle.snap_follow.specs.declared.waiting.Turn.{Turn}
 use Rattle.snap_format.specs.Rows.{rows_of}
 use Rattle.snap_follow.specs.Bytes.{AreAllLines, AreLinesOf, EndsLine, HasNoEnd}
-use Rattle.snap_follow.specs.Followed.{HasRead, IsInTime, StopsAt}
+use Rattle.snap_follow.specs.Followed.{HasRead, IsInTime, ReadsMore, StopsAt}
+use Rattle.snap_follow.specs.Turns.{Spells}
 use Rattle.snap_follow.specs.Windows.{EndsFirst}
 use Rattle.snap_follow.specs.inside.Sums.{HasTold}
 use Rattle.snap_follow.specs.declared.course.TheConstants.{RECORD_LIMIT}
@@ -17,12 +20,27 @@ pub record HasJudged (follow : Follow) (answers : Answers) (gone : List ℕ) (le
   pub read : HasRead follow least most texts lines events
   pub in_time : IsInTime least events read.since
   pub first : EndsFirst least read.before read.since
-  pub told : HasTold answers gone least (texts ++ lines ∷ []) read.before
+  pub told : HasTold answers gone least read.places read.before
 
--- a line was taken
+-- lines were taken
+abbrev pub TakesLines : Course → Course → List (List ℕ) → Type 0
+TakesLines old new added = (gone : List ℕ) (least most : ℕ) (texts : List (List (List ℕ))) (lines : List (List ℕ)) (events : List Event) → HasJudged old.follow old.answers gone least most texts lines events →
+    (more : List Event) × HasJudged new.follow new.answers gone least most texts (lines ++ added) (events ++ more)
+
 abbrev pub TakesLine : Course → Course → List ℕ → Type 0
-TakesLine old new line = (gone : List ℕ) (least most : ℕ) (texts : List (List (List ℕ))) (lines : List (List ℕ)) (events : List Event) → HasJudged old.follow old.answers gone least most texts lines events →
-    (more : List Event) × HasJudged new.follow new.answers gone least most texts (lines ++ line ∷ []) (events ++ more)
+TakesLine old new line = TakesLines old new (line ∷ [])
+
+-- events that waited were taken
+abbrev pub TakesMore : Course → Course → Type 0
+TakesMore old new = TakesLines old new []
+
+-- a window was answered if one could end after lines were read
+abbrev pub EndsWindow : Course → Course → Type 0
+EndsWindow old new = (before : Course) (added : List (List ℕ)) → ReadsMore before.follow old.follow added → before.answers ≡ old.answers → TakesLines before new added
+
+-- a record waits
+abbrev pub HasWaiting : Follow → Type 0
+HasWaiting follow = follow.waiting.turns.items ≢ []
 
 -- a recording was followed so far: the lines of some whole texts, and of the bytes of the text at hand, say these events
 pub record HasFollowed (course : Course) (gone : List ℕ) (least most : ℕ) (texts : List (List (List ℕ))) (bytes : List ℕ) (events : List Event) : Type 0 where
@@ -81,11 +99,21 @@ pub record StopsIn (old : Course) (piece : List ℕ) : Type 0 where
   pub taken : TakesBytes old at front
   pub stops : IsTooLong (at.rest.items ++ line) ⊎ (BeginsWithEnd behind × StopsAt at.follow (at.rest.items ++ line))
 
+-- the records of lines have stamps
+abbrev pub HaveStamps : ℕ → List (List ℕ) → Type 0
+HaveStamps n lines = (turns : List Turn) × Spells Stamped n (flat_map rows_of lines) turns
+
+-- the records of the text at hand have stamps
+abbrev pub HasStamps : Course → Type 0
+HasStamps old = (gone : List ℕ) (least most : ℕ) (texts : List (List (List ℕ))) (bytes : List ℕ) (events : List Event) → HasFollowed old gone least most texts bytes events →
+    (lines : List (List ℕ)) × AreAllLines bytes lines × HaveStamps (length texts) lines
+
 -- the text at hand ends without any record
 abbrev pub HasNothing : Course → Type 0
 HasNothing old = (gone : List ℕ) (least most : ℕ) (texts : List (List (List ℕ))) (bytes : List ℕ) (events : List Event) → HasFollowed old gone least most texts bytes events →
     (lines : List (List ℕ)) × AreAllLines bytes lines × (flat_map rows_of lines ≡ [])
 
--- the end of the text at hand stops a recording: its last line does, which need not end, or the text has no record
+-- the end of the text at hand stops a recording: its last line does, which need not end, or the text has no record, or records have
+-- stamps
 abbrev pub StopsLast : Course → Type 0
-StopsLast old = StopsAt old.follow old.rest.items ⊎ HasNothing old
+StopsLast old = StopsAt old.follow old.rest.items ⊎ (HasNothing old ⊎ HasStamps old)

@@ -3,8 +3,8 @@ use Rattle.std.specs.Prelude.{⊤, Option, Some, None}
 use Rattle.snap_core.specs.declared.history.EventRefusal.{EventRefusal}
 use Rattle.snap_format.specs.Faults.{fault_of}
 use Rattle.snap_follow.specs.declared.follow.Ended.{Ended}
-use Rattle.snap_follow.specs.declared.follow.Ended.TheVariants.{Refused, Memory}
-use Rattle.snap_follow.specs.declared.follow.Place.{Place}
+use Rattle.snap_follow.specs.declared.follow.Ended.TheVariants.{Refused, Late, Memory}
+use Rattle.snap_follow.specs.declared.span.Place.{Place}
 use Rattle.snap_text.specs.declared.fault.TextFault.{TextFault}
 
 -- a fault at a place, or want of memory
@@ -19,4 +19,5 @@ ended_by place refusal = ended_with place (fault_of refusal)
 -- a record is refused, and memory has not run out
 abbrev pub IsRefusal : Ended → Type 0
 IsRefusal (Refused place fault) = ⊤
+IsRefusal (Late place) = ⊤
 IsRefusal Memory = ⊥

@@ -15,7 +15,7 @@ use Rattle.snap_follow.specs.Followed.{StopsAt}
 use Rattle.snap_core.specs.declared.counted.Counted.{Counted}
 use Rattle.snap_follow.specs.Written.{HasSent}
 use Rattle.snap_follow.specs.Recordings.{AreCut, AreLastLines}
-use Rattle.snap_follow.specs.inside.Courses.{EndsBytes, HasFollowed, HasJudged}
+use Rattle.snap_follow.specs.inside.Courses.{EndsBytes, HasFollowed, HasJudged, HaveStamps}
 
 -- if a recording is refused, this holds
 abbrev pub OnRefusal : Stop → Type 0 → Type 0
@@ -84,10 +84,10 @@ abbrev pub EndsLast : Until → Course → Course → Type 0
 EndsLast until old new = (gone : List ℕ) (least most : ℕ) (texts : List (List (List ℕ))) (bytes : List ℕ) (events : List Event) → HasFollowed old gone least most texts bytes events →
     (lines : List (List ℕ)) × (more : List Event) × AreLastLines until bytes lines new.rest.items × HasJudged new.follow new.answers gone least most texts lines (events ++ more)
 
--- the last text has ended, and there was a record
+-- the last text has ended, nothing waits, and there was a record
 abbrev pub EndsAll : Until → Course → Course → Type 0
 EndsAll until old new = (gone : List ℕ) (least most : ℕ) (texts : List (List (List ℕ))) (bytes : List ℕ) (events : List Event) → HasFollowed old gone least most texts bytes events →
-    (lines : List (List ℕ)) × (more : List Event) × AreLastLines until bytes lines new.rest.items × HasJudged new.follow new.answers gone least most texts lines (events ++ more) × ((texts ≢ []) ⊎ (flat_map rows_of lines ≢ []))
+    (lines : List (List ℕ)) × (more : List Event) × AreLastLines until bytes lines new.rest.items × HasJudged new.follow new.answers gone least most texts lines (events ++ more) × (new.follow.waiting.turns.items ≡ []) × ((texts ≢ []) ⊎ (flat_map rows_of lines ≢ []))
 
 -- the recording has no record
 abbrev pub HasNoneAtAll : Until → Course → Type 0
@@ -100,9 +100,14 @@ StopsInRest End old = StopsAt old.follow old.rest.items
 StopsInRest Ever old = ⊥
 StopsInRest (Idle seconds) old = ⊥
 
--- the end of the last text stops the recording: by its last line, or for want of any record
+-- the records of the last text have stamps
+abbrev pub HasStampsAtEnd : Until → Course → Type 0
+HasStampsAtEnd until old = (gone : List ℕ) (least most : ℕ) (texts : List (List (List ℕ))) (bytes : List ℕ) (events : List Event) → HasFollowed old gone least most texts bytes events →
+    (lines : List (List ℕ)) × (rest : List ℕ) × AreLastLines until bytes lines rest × HaveStamps (length texts) lines
+
+-- the end of the last text stops the recording: by its last line, for want of any record, or since records have stamps
 abbrev pub StopsEnd : Until → Course → Type 0
-StopsEnd until old = StopsInRest until old ⊎ HasNoneAtAll until old
+StopsEnd until old = StopsInRest until old ⊎ (HasNoneAtAll until old ⊎ HasStampsAtEnd until old)
 
 -- all of these texts were taken
 pub record IsDone (course : Course) (until : Until) (gone : List ℕ) (least most : ℕ) (all : List (List ℕ)) : Type 0 where
@@ -111,4 +116,5 @@ pub record IsDone (course : Course) (until : Until) (gone : List ℕ) (least mos
   pub cut : AreCut until all earlier last course.rest.items
   pub events : List Event
   pub judged : HasJudged course.follow course.answers gone least most earlier last events
+  pub none_waits : course.follow.waiting.turns.items ≡ []
   pub begun : (earlier ≢ []) ⊎ (flat_map rows_of last ≢ [])

@@ -3,6 +3,7 @@ use Rattle.std.specs.Prelude.{⊤, ℕ, List, ◌≡◌, ◌≢◌, ◌<◌, ◌
 use Rattle.std.specs.Io.KnownBytes.{Appends}
 use Rattle.snap_core.specs.declared.event.Event.{Event}
 use Rattle.snap_core.specs.declared.counted.Counted.{Counted}
+use Rattle.snap_follow.specs.declared.span.Place.{Place}
 use Rattle.snap_follow.specs.declared.pieces.Stop.{Stop}
 use Rattle.snap_follow.specs.declared.pieces.Stop.TheVariants.{Refused, Lost, Fault}
 use Rattle.snap_follow.specs.declared.run.FollowFault.{FollowFault}
@@ -46,9 +47,9 @@ StopsBy (ends.Lost lost) stop = stop ≡ Lost lost
 StopsBy ends.Memory stop = stop ≡ Fault Memory
 
 -- the rest of what is told of a recording was written, after these bytes had gone out
-pub record TellsRest (old new : Option (List ℕ)) (gone : List ℕ) (least : ℕ) (texts : List (List (List ℕ))) (events : List Event) (views : ℕ) (code : Option ℕ) : Type 0 where
+pub record TellsRest (old new : Option (List ℕ)) (gone : List ℕ) (least : ℕ) (places : List Place) (events : List Event) (views : ℕ) (code : Option ℕ) : Type 0 where
   pub told : List Told
-  pub windows : AreWindowsOf least texts events told
+  pub windows : AreWindowsOf least places events told
   pub out : List ℕ
   pub sent : Appends old new out
   pub all : gone ++ out ≡ flat_map line_of told ++ sums_text told

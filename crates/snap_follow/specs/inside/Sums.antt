@@ -2,8 +2,9 @@
 use Rattle.std.specs.Prelude.{◌≡◌, ◌<◌, ◌⊎◌, ◌+◌, ◌++◌, ◌∷◌, [], ℕ, List, Option, Some, None, count_by, find, flat_map, length, sum_by}
 use Rattle.snap_core.specs.declared.event.Event.{Event}
 use Rattle.snap_follow.specs.Spans.{IsSpanOf, ends_view, stop}
-use Rattle.snap_follow.specs.Windows.{AreWindowsOf, HasEnded, IsToldAfter, Told, events_of, has_code, line_of, sums_text}
+use Rattle.snap_follow.specs.Windows.{AreWindowsOf, HasEnded, IsToldAfter, Told, events_of, has_code, line_of}
 use Rattle.snap_follow.specs.declared.answers.Answers.{Answers}
+use Rattle.snap_follow.specs.declared.span.Place.{Place}
 use Rattle.snap_follow.specs.declared.follow.Window.{Window}
 use Rattle.snap_follow.specs.declared.sums.Count.{Count}
 use Rattle.snap_follow.specs.declared.sums.Sums.{Sums}
@@ -52,15 +53,15 @@ abbrev pub WritesLines : Answers → Answers → List ℕ → Type 0
 WritesLines old new out = (old.lines ≡ out) × (new.lines ≡ []) × (new.sums ≡ old.sums)
 
 -- the windows that have ended were answered, and all that they have are these events
-pub record HasTold (answers : Answers) (gone : List ℕ) (least : ℕ) (texts : List (List (List ℕ))) (before : List Event) : Type 0 where
+pub record HasTold (answers : Answers) (gone : List ℕ) (least : ℕ) (places : List Place) (before : List Event) : Type 0 where
   pub told : List Told
   pub answered : HasAnswered answers gone told
   pub all : events_of told ≡ before
-  pub each : (front behind : List Told) (t : Told) → told ≡ front ++ t ∷ behind → IsToldAfter least texts front t
+  pub each : (front behind : List Told) (t : Told) → told ≡ front ++ t ∷ behind → IsToldAfter least places front t
   pub ended : (front behind : List Told) (t : Told) → told ≡ front ++ t ∷ behind → HasEnded least (events_of front) t.events
 
 -- all windows were answered
-pub record HasToldAll (answers : Answers) (gone : List ℕ) (least : ℕ) (texts : List (List (List ℕ))) (events : List Event) : Type 0 where
+pub record HasToldAll (answers : Answers) (gone : List ℕ) (least : ℕ) (places : List Place) (events : List Event) : Type 0 where
   pub told : List Told
   pub answered : HasAnswered answers gone told
-  pub windows : AreWindowsOf least texts events told
+  pub windows : AreWindowsOf least places events told

@@ -2,8 +2,12 @@
 use Rattle.std.specs.Prelude.{◌≡◌, ℕ, Bool, List, Option, Result, codes, IsErr, IsNone, IsSomeAnd, MatchResult}
 use Rattle.clap.specs.Words.{Row, Text}
 use Rattle.snap_words.specs.Drawing.{AsksDrawWithin}
-use Rattle.snap_words.specs.Jobs.{AsksCheck, AsksExplanationWithin, AsksFollow, AsksPictureWithin, AsksRecordWithin, AsksStatsWithin, AsksTooManyRounds, Checking, Flags, FollowsUnheeding, IsCheck, IsDraw, IsExplain, IsFollow, IsRecord, IsShrink, IsStats, LacksFollow, NamesInputTwice, files_of}
+use Rattle.snap_words.specs.Jobs.{AsksCheck, AsksFollow, AsksRecordWithin, AsksStatsWithin, AsksTooManyRounds, Checking, Flags, FollowsUnheeding, IsCheck, IsDraw, IsExplain, IsFollow, IsRecord, IsShrink, IsStats, LacksFollow, NamesInputTwice, files_of}
+use Rattle.snap_words.specs.Explaining.{AsksExplanationWithin, DrawsFaults}
+use Rattle.snap_words.specs.Shrinking.{AsksShrinkWithin, DrawsMap}
 use Rattle.snap_words.specs.declared.drawing.Form.{Form}
+use Rattle.snap_words.specs.declared.drawing.Part.{Part}
+use Rattle.snap_words.specs.declared.shrunk.Shrunk.{Shrunk}
 use Rattle.snap_words.specs.declared.job.Job.{Job}
 use Rattle.snap_words.specs.declared.job.JobFault.{JobFault}
 use Rattle.snap_words.specs.declared.job.JobFault.TheVariants.{Memory}
@@ -13,9 +17,11 @@ use Rattle.snap_words.specs.declared.job.Windows.{Windows}
 pub record Finds (command : Text) (rows : List Row) (Gives : (Job → Type 0) → Type 0) (GivesNone : Type 0) : Type 0 where
   pub check : (asked : Checking) → command ≡ codes "check" → AsksCheck rows asked → Gives (IsCheck asked (files_of rows))
   pub follow : (events : ℕ) (windows : Windows) → command ≡ codes "check" → AsksFollow events rows windows → Gives (IsFollow events windows (files_of rows))
-  pub shrink : (events : ℕ) (drawn : Bool) → command ≡ codes "shrink" → AsksPictureWithin events drawn rows → Gives (IsShrink events drawn (files_of rows))
-  pub explain : (events : ℕ) (drawn whole : Bool) → command ≡ codes "explain" → AsksExplanationWithin events drawn whole rows → Gives (IsExplain events drawn whole (files_of rows))
-  pub draw : (events : ℕ) (form : Form) → command ≡ codes "draw" → AsksDrawWithin events rows form → Gives (IsDraw events form (files_of rows))
+  pub shrink : (events : ℕ) (shrunk : Shrunk) → command ≡ codes "shrink" → AsksShrinkWithin events shrunk rows → Gives (IsShrink events shrunk (files_of rows))
+  pub drawn_map : command ≡ codes "shrink" → DrawsMap rows → GivesNone
+  pub explain : (events : ℕ) (drawn whole : Bool) (faults : ℕ) → command ≡ codes "explain" → AsksExplanationWithin events drawn whole faults rows → Gives (IsExplain events drawn whole faults (files_of rows))
+  pub drawn_faults : command ≡ codes "explain" → DrawsFaults rows → GivesNone
+  pub draw : (events : ℕ) (form : Form) (part : Part) → command ≡ codes "draw" → AsksDrawWithin events rows form part → Gives (IsDraw events form part (files_of rows))
   pub stats : (events : ℕ) (json : Bool) → command ≡ codes "stats" → AsksStatsWithin events json rows → Gives (IsStats events json (files_of rows))
   pub repeated : command ≡ codes "stats" → NamesInputTwice rows → GivesNone
   pub recording : (events workers rounds seed : ℕ) (flags : Flags) → command ≡ codes "record" → AsksRecordWithin events rows workers rounds seed flags → Gives (IsRecord workers rounds seed flags)

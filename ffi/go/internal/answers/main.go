@@ -15,23 +15,29 @@ import (
 
 // The question that each command asks of a text.
 var questions = map[string]func([]byte) (snapjudge.Answer, error){
-	"check":                func(text []byte) (snapjudge.Answer, error) { return snapjudge.Report(text) },
-	"explain":              func(text []byte) (snapjudge.Answer, error) { return snapjudge.Explain(text) },
-	"explain --draw":       func(text []byte) (snapjudge.Answer, error) { return snapjudge.ExplainDrawn(text) },
-	"explain --all":        func(text []byte) (snapjudge.Answer, error) { return snapjudge.ExplainAll(text) },
-	"explain --all --draw": func(text []byte) (snapjudge.Answer, error) { return snapjudge.ExplainAllDrawn(text) },
-	"check --format json":  func(text []byte) (snapjudge.Answer, error) { return snapjudge.JSON(text, "-") },
-	"shrink":               func(text []byte) (snapjudge.Answer, error) { return snapjudge.Shrink(text) },
-	"shrink --draw":        func(text []byte) (snapjudge.Answer, error) { return snapjudge.ShrinkDrawn(text) },
-	"draw":                 func(text []byte) (snapjudge.Answer, error) { return snapjudge.Draw(text, snapjudge.Page) },
-	"draw --svg":           func(text []byte) (snapjudge.Answer, error) { return snapjudge.Draw(text, snapjudge.SVG) },
-	"draw --text":          func(text []byte) (snapjudge.Answer, error) { return snapjudge.Draw(text, snapjudge.Lines) },
-	"draw --light":         func(text []byte) (snapjudge.Answer, error) { return snapjudge.Draw(text, snapjudge.LightPage) },
-	"draw --dark":          func(text []byte) (snapjudge.Answer, error) { return snapjudge.Draw(text, snapjudge.DarkPage) },
-	"draw --svg --dark":    func(text []byte) (snapjudge.Answer, error) { return snapjudge.Draw(text, snapjudge.DarkSVG) },
-	"stats":                statsLines,
-	"stats --format json":  stats,
-	"values":               values,
+	"check":                    func(text []byte) (snapjudge.Answer, error) { return snapjudge.Report(text) },
+	"explain":                  func(text []byte) (snapjudge.Answer, error) { return snapjudge.Explain(text) },
+	"explain --draw":           func(text []byte) (snapjudge.Answer, error) { return snapjudge.ExplainDrawn(text) },
+	"explain --all":            func(text []byte) (snapjudge.Answer, error) { return snapjudge.ExplainAll(text) },
+	"explain --all --draw":     func(text []byte) (snapjudge.Answer, error) { return snapjudge.ExplainAllDrawn(text) },
+	"check --format json":      func(text []byte) (snapjudge.Answer, error) { return snapjudge.JSON(text, "-") },
+	"shrink":                   func(text []byte) (snapjudge.Answer, error) { return snapjudge.Shrink(text) },
+	"shrink --draw":            func(text []byte) (snapjudge.Answer, error) { return snapjudge.ShrinkDrawn(text) },
+	"shrink --map":             func(text []byte) (snapjudge.Answer, error) { return snapjudge.ShrinkMap(text) },
+	"explain --faults 3":       func(text []byte) (snapjudge.Answer, error) { return snapjudge.ExplainFaults(text, 3) },
+	"explain --all --faults 3": func(text []byte) (snapjudge.Answer, error) { return snapjudge.ExplainAllFaults(text, 3) },
+	"draw":                     func(text []byte) (snapjudge.Answer, error) { return snapjudge.Draw(text, snapjudge.Page) },
+	"draw --svg":               func(text []byte) (snapjudge.Answer, error) { return snapjudge.Draw(text, snapjudge.SVG) },
+	"draw --text":              func(text []byte) (snapjudge.Answer, error) { return snapjudge.Draw(text, snapjudge.Lines) },
+	"draw --light":             func(text []byte) (snapjudge.Answer, error) { return snapjudge.Draw(text, snapjudge.LightPage) },
+	"draw --dark":              func(text []byte) (snapjudge.Answer, error) { return snapjudge.Draw(text, snapjudge.DarkPage) },
+	"draw --svg --calls 5": func(text []byte) (snapjudge.Answer, error) {
+		return snapjudge.DrawPart(text, snapjudge.SVG, snapjudge.Part{Calls: 5})
+	},
+	"draw --svg --dark":   func(text []byte) (snapjudge.Answer, error) { return snapjudge.Draw(text, snapjudge.DarkSVG) },
+	"stats":               statsLines,
+	"stats --format json": stats,
+	"values":              values,
 }
 
 // The lines of what a run has shown. The program ends with 0, unless the text is not a history.

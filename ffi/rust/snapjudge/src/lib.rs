@@ -28,6 +28,9 @@ use std::fmt;
 /// How many events a history has at most, unless a [`Judge`] says it.
 pub const USUAL_LIMIT: u32 = 65_536;
 
+/// How many faults of a kind an explanation may have.
+pub const MOST_FAULTS: u32 = 1000;
+
 /// What a text is.
 #[derive(Clone, Copy, Debug, PartialEq, Eq)]
 pub enum Status {
@@ -76,6 +79,14 @@ pub enum Verdict {
     Irregular { faults: Vec<Fault> },
 }
 
+/// Which calls of a history are drawn: how many, and from which on or around which. Calls are counted from 1, and 0 asks for nothing.
+#[derive(Clone, Copy, Debug, Default, PartialEq, Eq)]
+pub struct Part {
+    pub calls: u32,
+    pub from: u32,
+    pub around: u32,
+}
+
 /// A history that was judged.
 #[derive(Clone, Debug, PartialEq, Eq)]
 pub struct Judged {
@@ -119,6 +130,8 @@ pub enum Error {
     Refused(Refusal),
     /// There is no such limit of events.
     NoLimit(u32),
+    /// A history has no such part to draw.
+    NoPart,
     /// Memory ran out.
     OutOfMemory,
 }
@@ -128,6 +141,7 @@ impl fmt::Display for Error {
         match self {
             Error::Refused(refusal) => f.write_str(refusal.sentences.trim_end_matches('\n')),
             Error::NoLimit(events) => write!(f, "a limit of events is from 1 to 1,048,576, and not {events}"),
+            Error::NoPart => f.write_str("the history has no such part"),
             Error::OutOfMemory => f.write_str("out of memory"),
         }
     }
@@ -142,6 +156,8 @@ pub enum RoomError {
     TooLittle(usize),
     /// There is no such limit of events.
     NoLimit(u32),
+    /// A history has no such part to draw.
+    NoPart,
     /// Memory ran out.
     OutOfMemory,
 }
@@ -232,6 +248,16 @@ impl Judge {
         self.ask(Question::Explanation { drawn: true, whole: true }, text.as_ref())
     }
 
+    /// As [`explain_faults()`].
+    pub fn explain_faults(self, text: impl AsRef<[u8]>, faults: u32) -> Result<Answer, Error> {
+        self.ask(Question::Faults { whole: false, faults: faults.clamp(1, MOST_FAULTS) }, text.as_ref())
+    }
+
+    /// As [`explain_all_faults()`].
+    pub fn explain_all_faults(self, text: impl AsRef<[u8]>, faults: u32) -> Result<Answer, Error> {
+        self.ask(Question::Faults { whole: true, faults: faults.clamp(1, MOST_FAULTS) }, text.as_ref())
+    }
+
     /// As [`json()`].
     pub fn json(self, text: impl AsRef<[u8]>, name: &str) -> Result<Answer, Error> {
         self.ask(Question::Object { name }, text.as_ref())
@@ -239,17 +265,27 @@ impl Judge {
 
     /// As [`shrink()`].
     pub fn shrink(self, text: impl AsRef<[u8]>) -> Result<Answer, Error> {
-        self.ask(Question::Witness { drawn: false }, text.as_ref())
+        self.ask(Question::Witness, text.as_ref())
     }
 
     /// As [`shrink_drawn()`].
     pub fn shrink_drawn(self, text: impl AsRef<[u8]>) -> Result<Answer, Error> {
-        self.ask(Question::Witness { drawn: true }, text.as_ref())
+        self.ask(Question::WitnessDrawn, text.as_ref())
+    }
+
+    /// As [`shrink_map()`].
+    pub fn shrink_map(self, text: impl AsRef<[u8]>) -> Result<Answer, Error> {
+        self.ask(Question::WitnessMap, text.as_ref())
     }
 
     /// As [`draw()`].
     pub fn draw(self, text: impl AsRef<[u8]>, form: Form) -> Result<Answer, Error> {
-        self.ask(Question::Picture(form), text.as_ref())
+        self.draw_part(text, form, Part::default())
+    }
+
+    /// As [`draw_part()`].
+    pub fn draw_part(self, text: impl AsRef<[u8]>, form: Form, part: Part) -> Result<Answer, Error> {
+        self.ask(Question::Picture(form, part), text.as_ref())
     }
 
     /// As [`stats()`].
@@ -355,6 +391,30 @@ pub fn explain_all_drawn(text: impl AsRef<[u8]>) -> Result<Answer, Error> {
     Judge::default().explain_all_drawn(text)
 }
 
+/// What `snapjudge explain --faults N` writes, with `faults` for N: of each kind the first fault of each of the first N views that have one.
+/// N is at least 1 and at most [`MOST_FAULTS`]; a number beyond these is taken for the nearest of them.
+///
+/// ```
+/// let text = "event,process,op,data\nbegin,0,view,\nend,0,view,0:1:7\nbegin,0,view,\nend,0,view,0:1:7\n";
+/// assert_eq!(snapjudge::explain_faults(text, 1)?, snapjudge::explain(text)?);
+/// assert!(snapjudge::explain_faults(text, 2)?.text.contains("integrity: view 2"));
+/// # Ok::<(), snapjudge::Error>(())
+/// ```
+pub fn explain_faults(text: impl AsRef<[u8]>, faults: u32) -> Result<Answer, Error> {
+    Judge::default().explain_faults(text, faults)
+}
+
+/// What `snapjudge explain --all --faults N` writes: the sentences of [`explain_faults`], with all entries of the views of a fault.
+///
+/// ```
+/// let text = "event,process,op,data\nbegin,0,view,\nend,0,view,0:1:7\n";
+/// assert_eq!(snapjudge::explain_all_faults(text, 5)?, snapjudge::explain_all(text)?);
+/// # Ok::<(), snapjudge::Error>(())
+/// ```
+pub fn explain_all_faults(text: impl AsRef<[u8]>, faults: u32) -> Result<Answer, Error> {
+    Judge::default().explain_all_faults(text, faults)
+}
+
 /// What `snapjudge check --format json` writes of a file with this name: an object on a line.
 ///
 /// ```
@@ -389,6 +449,17 @@ pub fn shrink_drawn(text: impl AsRef<[u8]>) -> Result<Answer, Error> {
     Judge::default().shrink_drawn(text)
 }
 
+/// What `snapjudge shrink --map` writes: a line for each call of that history, beside the call of the text that it is.
+///
+/// ```
+/// let text = "event,process,op,data\nbegin,0,view,\nend,0,view,\nbegin,0,view,\nend,0,view,0:1:7\n";
+/// assert!(snapjudge::shrink_map(text)?.text.ends_with("\n1,0,2,3,2,0,4,5\n"));
+/// # Ok::<(), snapjudge::Error>(())
+/// ```
+pub fn shrink_map(text: impl AsRef<[u8]>) -> Result<Answer, Error> {
+    Judge::default().shrink_map(text)
+}
+
 /// What `snapjudge draw` writes, or with a form `snapjudge draw --svg` or `snapjudge draw --text`, or with `--light` or `--dark`.
 ///
 /// ```
@@ -400,6 +471,20 @@ pub fn shrink_drawn(text: impl AsRef<[u8]>) -> Result<Answer, Error> {
 /// ```
 pub fn draw(text: impl AsRef<[u8]>, form: Form) -> Result<Answer, Error> {
     Judge::default().draw(text, form)
+}
+
+/// What `snapjudge draw` writes with `--calls`, and `--from` or `--around`: a picture of a part of a history.
+///
+/// ```
+/// use snapjudge::{draw_part, Error, Form, Part};
+/// let text = "event,process,op,data\nbegin,0,view,\nend,0,view,\nbegin,0,view,\nend,0,view,\n";
+/// let last = draw_part(text, Form::Svg, Part { from: 2, ..Part::default() })?.text;
+/// assert!(last.contains("call-2") && !last.contains("call-1"));
+/// assert_eq!(draw_part(text, Form::Svg, Part { around: 3, ..Part::default() }), Err(Error::NoPart));
+/// # Ok::<(), Error>(())
+/// ```
+pub fn draw_part(text: impl AsRef<[u8]>, form: Form, part: Part) -> Result<Answer, Error> {
+    Judge::default().draw_part(text, form, part)
 }
 
 /// What a run has shown, such as how many views overlap an update. It is not a verdict.

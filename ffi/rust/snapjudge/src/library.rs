@@ -1,11 +1,12 @@
 //! The calls of libsnapjudge.a. What they answer is proved; this file is not.
-use crate::{Answer, Error, Form, RoomError, Status};
+use crate::{Answer, Error, Form, Part, RoomError, Status};
 
 /// The version of the library that this crate is for.
 const VERSION: u32 = 1;
 
 const NO_ROOM: u32 = 5;
 const NO_LIMIT: u32 = 6;
+const NO_OPTION: u32 = 7;
 
 extern "C" {
     fn snapjudge_check_limit(
@@ -27,6 +28,17 @@ extern "C" {
         length: *mut usize,
     ) -> u32;
 
+    fn snapjudge_explain_faults(
+        text: *const u8,
+        text_length: usize,
+        events: u32,
+        whole: u32,
+        faults: u32,
+        out: *mut u8,
+        room: usize,
+        length: *mut usize,
+    ) -> u32;
+
     fn snapjudge_json(
         text: *const u8,
         text_length: usize,
@@ -42,17 +54,20 @@ extern "C" {
         text: *const u8,
         text_length: usize,
         events: u32,
-        drawn: u32,
+        form: u32,
         out: *mut u8,
         room: usize,
         length: *mut usize,
     ) -> u32;
 
-    fn snapjudge_draw(
+    fn snapjudge_draw_calls(
         text: *const u8,
         text_length: usize,
         events: u32,
         form: u32,
+        calls: u32,
+        from: u32,
+        around: u32,
         out: *mut u8,
         room: usize,
         length: *mut usize,
@@ -76,9 +91,12 @@ extern "C" {
 pub(crate) enum Question<'a> {
     Report,
     Explanation { drawn: bool, whole: bool },
+    Faults { whole: bool, faults: u32 },
     Object { name: &'a str },
-    Witness { drawn: bool },
-    Picture(Form),
+    Witness,
+    WitnessDrawn,
+    WitnessMap,
+    Picture(Form, Part),
     Stats { object: bool },
 }
 
@@ -95,9 +113,14 @@ fn call(question: Question<'_>, text: &[u8], events: u32, room: &mut [u8]) -> (u
             Question::Explanation { drawn, whole } => {
                 snapjudge_explain(from, bytes, events, u32::from(drawn) + 2 * u32::from(whole), to, most, end)
             }
+            Question::Faults { whole, faults } => snapjudge_explain_faults(from, bytes, events, whole.into(), faults, to, most, end),
             Question::Object { name } => snapjudge_json(from, bytes, events, name.as_ptr(), name.len(), to, most, end),
-            Question::Witness { drawn } => snapjudge_shrink(from, bytes, events, drawn.into(), to, most, end),
-            Question::Picture(form) => snapjudge_draw(from, bytes, events, form as u32, to, most, end),
+            Question::Witness => snapjudge_shrink(from, bytes, events, 0, to, most, end),
+            Question::WitnessDrawn => snapjudge_shrink(from, bytes, events, 1, to, most, end),
+            Question::WitnessMap => snapjudge_shrink(from, bytes, events, 2, to, most, end),
+            Question::Picture(form, part) => {
+                snapjudge_draw_calls(from, bytes, events, form as u32, part.calls, part.from, part.around, to, most, end)
+            }
             Question::Stats { object } => snapjudge_stats(from, bytes, events, object.into(), to, most, end),
         }
     };
@@ -119,6 +142,7 @@ pub(crate) fn answer_into(
         3 => Ok((Status::Refused, length)),
         NO_ROOM => Err(RoomError::TooLittle(length)),
         NO_LIMIT => Err(RoomError::NoLimit(events)),
+        NO_OPTION => Err(RoomError::NoPart),
         _ => Err(RoomError::OutOfMemory),
     }
 }
@@ -143,6 +167,7 @@ pub(crate) fn answer(question: Question<'_>, text: &[u8], events: u32) -> Result
             }
             Err(RoomError::TooLittle(length)) => size = length,
             Err(RoomError::NoLimit(events)) => return Err(Error::NoLimit(events)),
+            Err(RoomError::NoPart) => return Err(Error::NoPart),
             Err(RoomError::OutOfMemory) => return Err(Error::OutOfMemory),
         }
     }

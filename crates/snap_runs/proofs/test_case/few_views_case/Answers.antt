@@ -1,4 +1,4 @@
-use Rattle.std.proofs.Common.{◌≡◌, ◌++◌, ◌∙◌, ap, append_assoc, codes, decimal, subst}
+use Rattle.std.proofs.Common.{◌≡◌, ◌∙◌, append_assoc, subst}
 use Rattle.std.specs.Prelude.{IfOk}
 use Rattle.snap_explain.specs.declared.test_case.Ending.TheVariants.{Failure}
 use Rattle.snap_explain.specs.TestCases.{ended_case}

@@ -1,4 +1,4 @@
-use Rattle.std.proofs.Common.{◌≤◌, ◌<◌, ◌∙◌, ap, arith, length, subst}
+use Rattle.std.proofs.Common.{◌≤◌, ◌<◌, ap, arith, length, subst}
 use Rattle.snap_core.specs.Calls.{calls_of, views_of}
 use Rattle.snap_runs.specs.TestCases.{IsJudgedCase}
 use Rattle.snap_runs.proofs.test_case.history_case.Goals as goal

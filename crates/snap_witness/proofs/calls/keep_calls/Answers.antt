@@ -1,10 +1,10 @@
-use Rattle.std.proofs.Common.{◌++◌, sym, ap, ◌∙◌, subst}
+use Rattle.std.proofs.Common.{sym, ap, ◌∙◌, subst}
 use Rattle.snap_core.specs.Calls.{calls_of}
 use Rattle.snap_core.specs.Events.{IsHistory}
 use Rattle.snap_theory.specs.Kept.{kept_from, is_among}
-use Rattle.snap_witness.specs.inside.Places.{places_of, calls_numbered}
-use Rattle.snap_theory.specs.Witness.{numbers_of, updates_kept}
-use Rattle.snap_witness.proofs.Places.{places_join, kept_is_witness}
+use Rattle.snap_witness.specs.inside.Places.{calls_numbered}
+use Rattle.snap_theory.specs.Witness.{numbers_of}
+use Rattle.snap_witness.proofs.Places.{kept_is_witness}
 use Rattle.snap_theory.proofs.Witnesses.{witness_history}
 use Rattle.snap_witness.proofs.calls.keep_calls.Goals as goal
 
@@ -13,7 +13,7 @@ keep-requires-clause-history c =
     let es = c.args.index.now in
     let rs = calls_numbered (calls_of es) c.args.views.now in
     let ps = c.args.updates.now in
-    let listed = c.deref.ensures.value ∙ c.in_ok-push_updates.ensures ∙ ap (λ z. z ++ places_of (updates_kept (calls_of es) ps)) (c.in_ok-push_views.ensures ∙ ap (λ z. z ++ places_of rs) c.new-places.ensures.items) ∙ places_join (calls_of es) rs ps in
+    let listed = c.deref.ensures.value ∙ c.in_ok-places.ensures in
     let same = ap (kept_from (is_among c.deref.result.now) (numbers_of ps) 0) c.events.ensures.events ∙ kept_is_witness es rs ps c.deref.result.now listed in
     subst IsHistory (sym same) (witness_history es rs ps c.events.ensures.kept.history c.requires.calls)
 
@@ -22,6 +22,6 @@ returns c =
     let es = c.args.index.now in
     let rs = calls_numbered (calls_of es) c.args.views.now in
     let ps = c.args.updates.now in
-    let listed = c.deref.ensures.value ∙ c.in_ok-push_updates.ensures ∙ ap (λ z. z ++ places_of (updates_kept (calls_of es) ps)) (c.in_ok-push_views.ensures ∙ ap (λ z. z ++ places_of rs) c.new-places.ensures.items) ∙ places_join (calls_of es) rs ps in
+    let listed = c.deref.ensures.value ∙ c.in_ok-places.ensures in
     let same = ap (kept_from (is_among c.deref.result.now) (numbers_of ps) 0) c.events.ensures.events ∙ kept_is_witness es rs ps c.deref.result.now listed in
     rw same at c.keep.ensures

@@ -1,9 +1,10 @@
 use Rattle.std.proofs.lemmas.Result.{IfOk-weaker}
+use Rattle.snap_theory.specs.FaultWitnesses.{fault_witness}
 use Rattle.snap_witness.proofs.Answered.{each, whole_calls, few_calls, few_events, has_first, is_not_atomic, is_regular, none_exactly}
 use Rattle.snap_witness.proofs.finding.witness.Goals as goal
 
 pub returns-clause-none : goal.returns-clause-none
-returns-clause-none c = IfOk-weaker c.first_witness.result _ _ (none_exactly c.args.index.now c.event_count-events.ensures.kept) c.first_witness.ensures
+returns-clause-none c = IfOk-weaker c.first_witness.result _ _ (none_exactly c.args.index.now c.event_count-events.ensures.kept (λ h. h.events) (fault_witness c.args.index.now)) c.first_witness.ensures
 
 pub returns-clause-calls : goal.returns-clause-calls
 returns-clause-calls c = IfOk-weaker c.first_witness.result _ _ (each c.args.index.now c.event_count-events.ensures.kept _ (whole_calls c.args.index.now)) c.first_witness.ensures

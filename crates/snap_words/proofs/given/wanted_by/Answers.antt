@@ -18,25 +18,25 @@ pub returns-clause-follow : goal.returns-clause-follow
 returns-clause-follow c = λ events windows files whole means. c.readable.ensures (c.in-Err.ensures.follow events windows files means)
 
 pub returns-in-Ok-clause-shrink : goal.returns-in-Ok-clause-shrink
-returns-in-Ok-clause-shrink c = λ events drawn files whole means.
-    subst (IsShrink events drawn files) (sym (c.in_ok-whole_job-in-Ok.ensures.same (c.deref-in-Ok.ensures.value ∙ whole))) (c.in-Ok.ensures.shrink events drawn files means)
+returns-in-Ok-clause-shrink c = λ events shrunk files whole means.
+    subst (IsShrink events shrunk files) (sym (c.in_ok-whole_job-in-Ok.ensures.same (c.deref-in-Ok.ensures.value ∙ whole))) (c.in-Ok.ensures.shrink events shrunk files means)
 
 pub returns-clause-shrink : goal.returns-clause-shrink
-returns-clause-shrink c = λ events drawn files whole means. c.readable.ensures (c.in-Err.ensures.shrink events drawn files means)
+returns-clause-shrink c = λ events shrunk files whole means. c.readable.ensures (c.in-Err.ensures.shrink events shrunk files means)
 
 pub returns-in-Ok-clause-explain : goal.returns-in-Ok-clause-explain
-returns-in-Ok-clause-explain c = λ events drawn all files whole means.
-    subst (IsExplain events drawn all files) (sym (c.in_ok-whole_job-in-Ok.ensures.same (c.deref-in-Ok.ensures.value ∙ whole))) (c.in-Ok.ensures.explain events drawn all files means)
+returns-in-Ok-clause-explain c = λ events drawn all faults files whole means.
+    subst (IsExplain events drawn all faults files) (sym (c.in_ok-whole_job-in-Ok.ensures.same (c.deref-in-Ok.ensures.value ∙ whole))) (c.in-Ok.ensures.explain events drawn all faults files means)
 
 pub returns-clause-explain : goal.returns-clause-explain
-returns-clause-explain c = λ events drawn all files whole means. c.readable.ensures (c.in-Err.ensures.explain events drawn all files means)
+returns-clause-explain c = λ events drawn all faults files whole means. c.readable.ensures (c.in-Err.ensures.explain events drawn all faults files means)
 
 pub returns-in-Ok-clause-draw : goal.returns-in-Ok-clause-draw
-returns-in-Ok-clause-draw c = λ events form files whole means.
-    subst (IsDraw events form files) (sym (c.in_ok-whole_job-in-Ok.ensures.same (c.deref-in-Ok.ensures.value ∙ whole))) (c.in-Ok.ensures.draw events form files means)
+returns-in-Ok-clause-draw c = λ events form part files whole means.
+    subst (IsDraw events form part files) (sym (c.in_ok-whole_job-in-Ok.ensures.same (c.deref-in-Ok.ensures.value ∙ whole))) (c.in-Ok.ensures.draw events form part files means)
 
 pub returns-clause-draw : goal.returns-clause-draw
-returns-clause-draw c = λ events form files whole means. c.readable.ensures (c.in-Err.ensures.draw events form files means)
+returns-clause-draw c = λ events form part files whole means. c.readable.ensures (c.in-Err.ensures.draw events form part files means)
 
 pub returns-in-Ok-clause-stats : goal.returns-in-Ok-clause-stats
 returns-in-Ok-clause-stats c = λ events json files whole means.

@@ -34,25 +34,25 @@ returns-clause-follow c = λ events windows files means.
     on_files means.rows files (IsFollow events windows) c.asked_by.result means.files_are ((c.asked_by.ensures.asked (codes "check") means.rows (found c _ means.rows_are)).follow events windows refl means.asks)
 
 pub returns-in-Err-clause-shrink : goal.returns-in-Err-clause-shrink
-returns-in-Err-clause-shrink c = λ events drawn files means. memory c means.taken
+returns-in-Err-clause-shrink c = λ events shrunk files means. memory c means.taken
 
 pub returns-clause-shrink : goal.returns-clause-shrink
-returns-clause-shrink c = λ events drawn files means.
-    on_files means.rows files (IsShrink events drawn) c.asked_by.result means.files_are ((c.asked_by.ensures.asked (codes "shrink") means.rows (found c _ means.rows_are)).shrink events drawn refl means.asks)
+returns-clause-shrink c = λ events shrunk files means.
+    on_files means.rows files (IsShrink events shrunk) c.asked_by.result means.files_are ((c.asked_by.ensures.asked (codes "shrink") means.rows (found c _ means.rows_are)).shrink events shrunk refl means.asks)
 
 pub returns-in-Err-clause-explain : goal.returns-in-Err-clause-explain
-returns-in-Err-clause-explain c = λ events drawn whole files means. memory c means.taken
+returns-in-Err-clause-explain c = λ events drawn whole faults files means. memory c means.taken
 
 pub returns-clause-explain : goal.returns-clause-explain
-returns-clause-explain c = λ events drawn whole files means.
-    on_files means.rows files (IsExplain events drawn whole) c.asked_by.result means.files_are ((c.asked_by.ensures.asked (codes "explain") means.rows (found c _ means.rows_are)).explain events drawn whole refl means.asks)
+returns-clause-explain c = λ events drawn whole faults files means.
+    on_files means.rows files (IsExplain events drawn whole faults) c.asked_by.result means.files_are ((c.asked_by.ensures.asked (codes "explain") means.rows (found c _ means.rows_are)).explain events drawn whole faults refl means.asks)
 
 pub returns-in-Err-clause-draw : goal.returns-in-Err-clause-draw
-returns-in-Err-clause-draw c = λ events form files means. memory c means.taken
+returns-in-Err-clause-draw c = λ events form part files means. memory c means.taken
 
 pub returns-clause-draw : goal.returns-clause-draw
-returns-clause-draw c = λ events form files means.
-    on_files means.rows files (IsDraw events form) c.asked_by.result means.files_are ((c.asked_by.ensures.asked (codes "draw") means.rows (found c _ means.rows_are)).draw events form refl means.asks)
+returns-clause-draw c = λ events form part files means.
+    on_files means.rows files (IsDraw events form part) c.asked_by.result means.files_are ((c.asked_by.ensures.asked (codes "draw") means.rows (found c _ means.rows_are)).draw events form part refl means.asks)
 
 pub returns-in-Err-clause-stats : goal.returns-in-Err-clause-stats
 returns-in-Err-clause-stats c = λ events json files means. memory c means.taken
@@ -78,3 +78,9 @@ returns-clause-repeated c = λ files means. (c.asked_by.ensures.asked (codes "st
 
 pub returns-clause-overfull : goal.returns-clause-overfull
 returns-clause-overfull c = λ files means. (c.asked_by.ensures.asked (codes "record") means.rows (found c _ means.rows_are)).overfull refl means.asks
+
+pub returns-clause-drawn_map : goal.returns-clause-drawn_map
+returns-clause-drawn_map c = λ files means. (c.asked_by.ensures.asked (codes "shrink") means.rows (found c _ means.rows_are)).drawn_map refl means.asks
+
+pub returns-clause-drawn_faults : goal.returns-clause-drawn_faults
+returns-clause-drawn_faults c = λ files means. (c.asked_by.ensures.asked (codes "explain") means.rows (found c _ means.rows_are)).drawn_faults refl means.asks

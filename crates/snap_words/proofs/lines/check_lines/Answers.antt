@@ -124,11 +124,19 @@ returns-clause-files c = λ name. check_of (name ∷ codes "check" ∷ codes "a.
 
 pub returns-clause-follow : goal.returns-clause-follow
 unfolding clap_on_literals digits
-returns-clause-follow c = λ name. follow_of {window = Some (decimal 500)} {idle = Some (decimal 5)} (name ∷ codes "check" ∷ codes "--follow" ∷ codes "--window" ∷ codes "500" ∷ codes "--idle" ∷ codes "5" ∷ []) event_limit (record { least = 500; idle = 5; views = 0 }) [] (omega arith, omega arith) (omega arith) ((omega arith, omega arith), omega arith) (omega arith) (omega arith) refl refl refl refl refl refl
+returns-clause-follow c = λ name. follow_of {window = Some (decimal 500)} {idle = Some (decimal 5)} {late = None} (name ∷ codes "check" ∷ codes "--follow" ∷ codes "--window" ∷ codes "500" ∷ codes "--idle" ∷ codes "5" ∷ []) event_limit (record { least = 500; idle = 5; late = 1000; views = 0 }) [] (omega arith, omega arith) (omega arith) ((omega arith, omega arith), omega arith) (omega arith) (omega arith) (omega arith) refl refl refl refl refl refl refl
 
 pub returns-clause-few : goal.returns-clause-few
 unfolding clap_on_literals digits
-returns-clause-few c = λ name. follow_of {window = None} {idle = None} (name ∷ codes "check" ∷ codes "--follow" ∷ codes "--events" ∷ codes "500" ∷ []) 500 (record { least = 250; idle = 0; views = 0 }) [] (omega arith, omega arith) (omega arith) ((omega arith, omega arith), omega arith) (omega arith) (omega arith) refl refl refl refl refl refl
+returns-clause-few c = λ name. follow_of {window = None} {idle = None} {late = None} (name ∷ codes "check" ∷ codes "--follow" ∷ codes "--events" ∷ codes "500" ∷ []) 500 (record { least = 250; idle = 0; late = 1000; views = 0 }) [] (omega arith, omega arith) (omega arith) ((omega arith, omega arith), omega arith) (omega arith) (omega arith) (omega arith) refl refl refl refl refl refl refl
+
+pub returns-clause-late : goal.returns-clause-late
+unfolding clap_on_literals digits
+returns-clause-late c = λ name. follow_of {window = None} {idle = None} {late = Some (decimal 20)} (name ∷ codes "check" ∷ codes "--follow" ∷ codes "--late" ∷ codes "20" ∷ []) event_limit (record { least = 1000; idle = 0; late = 20; views = 0 }) [] (omega arith, omega arith) (omega arith) ((omega arith, omega arith), omega arith) (omega arith) (omega arith) (omega arith) refl refl refl refl refl refl refl
+
+pub returns-clause-late_unfollowed : goal.returns-clause-late_unfollowed
+unfolding clap_on_literals
+returns-clause-late_unfollowed c = λ name. means (name ∷ codes "check" ∷ codes "--late" ∷ codes "20" ∷ []) (codes "check") LacksFollow [] refl refl (record { no_follow = refl; windows_named = refl }) refl
 
 pub returns-clause-unfollowed : goal.returns-clause-unfollowed
 unfolding clap_on_literals

@@ -10,10 +10,10 @@ pub returns-clause-window : goal.returns-clause-window
 returns-clause-window c = λ least most texts lines events h. (rw c.in-Some.is at c.in_ok-verdict.ensures.window) h.before h.since h.taken
 
 pub returns-clause-same : goal.returns-clause-same
-returns-clause-same c = λ least most texts lines events h. (window_ended c.args.self.now _ refl refl c.behind-self.ensures.none c.behind-self.ensures.missed (refl, c.cut.ensures.limit) refl (rw c.in-Some.is at c.in_ok-verdict.ensures.cut) least most texts lines events h).0
+returns-clause-same c = λ least most texts lines events h. (window_ended c.args.self.now _ refl refl refl refl refl c.behind-self.ensures.none c.behind-self.ensures.missed (refl, c.cut.ensures.limit) refl (rw c.in-Some.is at c.in_ok-verdict.ensures.cut) least most texts lines events h).0
 
 pub returns-clause-begun : goal.returns-clause-begun
-returns-clause-begun c = window_ended c.args.self.now _ refl refl c.behind-self.ensures.none c.behind-self.ensures.missed (refl, c.cut.ensures.limit) refl (rw c.in-Some.is at c.in_ok-verdict.ensures.cut)
+returns-clause-begun c = window_ended c.args.self.now _ refl refl refl refl refl c.behind-self.ensures.none c.behind-self.ensures.missed (refl, c.cut.ensures.limit) refl (rw c.in-Some.is at c.in_ok-verdict.ensures.cut)
 
 pub returns-then-self-gt0-clause-ends : goal.returns-then-self-gt0-clause-ends
 returns-then-self-gt0-clause-ends c = λ least most texts lines events h quiet.

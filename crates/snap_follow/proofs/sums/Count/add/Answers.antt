@@ -1,4 +1,4 @@
-use Rattle.std.proofs.Common.{◌≡◌, ◌==◌, ◌∙◌, ap, arith, eq-eqb, false, ne_eqb, subst, sym, true}
+use Rattle.std.proofs.Common.{◌≡◌, ◌∙◌, ap, arith, eq-eqb, false, ne_eqb, subst, sym, true}
 use Rattle.std.specs.Prelude.{Some}
 use Rattle.std.specs.Option.{option_or}
 use Rattle.snap_follow.specs.inside.Sums.{IsFirst}

@@ -1,5 +1,4 @@
-use Rattle.std.proofs.Common.{◌≡◌, ◌∙◌, ◌+◌, ◌∷◌, [], arith, length, length-append, sym}
-use Rattle.snap_follow.specs.Spans.{stop}
+use Rattle.std.proofs.Common.{◌≡◌, ◌∙◌, ◌∷◌, [], arith, length-append, sym}
 use Rattle.snap_follow.proofs.sums.Sums.add.Goals as goal
 
 pub returns-clause-counts : goal.returns-clause-counts

@@ -1,0 +1,17 @@
+use Rattle.std.proofs.Common.{◌≡◌, ◌≤◌, ◌-◌, length}
+use Rattle.snap_core.specs.Calls.{calls_of, views_of}
+use Rattle.snap_views.specs.Seen.{views_between}
+use Rattle.snap_explain.specs.Faults.{read_text}
+use Rattle.snap_explain.specs.FirstFaults.{firsts_among, read_first}
+use Rattle.snap_explain.proofs.FirstFaults.{IsTold}
+use Rattle.snap_explain.proofs.first_faults.put_blocks.Given as goal
+
+abbrev pub invariant-loop-from : goal.invariant-loop-from
+invariant-loop-from l = record {
+  all : l.count ≡ length (views_of (calls_of l.grid));
+  within : l.from ≤ l.count;
+  told : IsTold (read_text l.listed l.records (calls_of l.grid)) l.most (firsts_among read_first (calls_of l.grid) (views_between (calls_of l.grid) 0 l.from)) l.fn.out.items l.out.items l.left;
+}
+
+abbrev pub decreases-loop-from : goal.decreases-loop-from
+decreases-loop-from l = l.count - l.from
