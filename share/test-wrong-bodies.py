@@ -75,6 +75,12 @@ impl Far for Place {
         100
     }
 }
+
+pub fn beyond(place: &Place) -> u8
+    ensures { result < 201 }
+{
+    place.far() + 1
+}
 """,
     "crates/few/proofs/next/Answers.antt": """use Rattle.std.proofs.Common.{refl}
 use Rattle.few.proofs.next.Goals as goal
@@ -92,6 +98,8 @@ EDITS = {
     "lib.next.two-steps": (REFUSED, "lib", "    place + STEP", "    place + STEP + STEP"),
     "lib.next.longer-step": (REFUSED, "lib", "STEP: u8 = 1", "STEP: u8 = 2"),
     "steps.two_on.one-step": (REFUSED, "steps", "{ next(first) }", "{ first }"),
+    "steps.two_on.from-the-start": (REFUSED, "steps", "{ next(first) }", "{ next(place) }"),
+    "steps.beyond.too-far": (REFUSED, "steps", "place.far() + 1", "place.far() + 2"),
     "steps.at.half-way": (REFUSED, "steps", "        self.at", "        self.at / 2"),
     "steps.at.nowhere": (REFUSED, "steps", "        self.at", "        0"),
     "steps.far.too-far": (REFUSED, "steps", "        100", "        200"),
@@ -106,6 +114,8 @@ EDITS = {
 RUNS = [
     (["lib.next.no-step", "lib.next.two-steps", "lib.next.longer-step", "lib.same.right", "steps.two_on.one-step", "steps.far.too-far", "steps.far.much-too-far"],
      ["lib.same.right"], [5, 1, 1]),
+    # goals that wait for a callee are tried beside its wrong bodies; a callee without room for others is wrong in other checks
+    (["lib.next.no-step", "steps.two_on.from-the-start", "steps.beyond.too-far", "steps.far.too-far"], [], [3, 1]),
     (["lib.next.no-step", "lib.next.right", "steps.at.half-way", "steps.at.nowhere", "lib.same.no-such-text"],
      ["lib.next.right", "lib.same.no-such-text"], [4]),
     (["lib.same.no-such-type", "longer-step"], ["lib.same.no-such-type", "longer-step"], [1]),
@@ -159,7 +169,7 @@ def misjudged(names, alone, together):
     left, checks = [], []
     try_alone, refused = wrong_bodies.try_alone, wrong_bodies.Crate.refused
     with (
-        replaced(wrong_bodies, "try_alone", lambda crate, edits, flags: left.extend(map(name_of, edits)) or try_alone(crate, edits, flags)),
+        replaced(wrong_bodies, "try_alone", lambda crate, edits, *others: left.extend(map(name_of, edits)) or try_alone(crate, edits, *others)),
         replaced(wrong_bodies.Crate, "refused", lambda crate, wrongs, *others: checks.append(len(wrongs)) or refused(crate, wrongs, *others)),
         tempfile.TemporaryDirectory() as room,
     ):

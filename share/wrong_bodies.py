@@ -13,6 +13,7 @@ proved. One function more is as it was, and must be proved: otherwise the check 
 function, is tried as the toolchain tries it, and that decides. A toolchain with other calls than this file knows tries all in its own
 way.
 """
+import collections
 import copy
 import functools
 import hashlib
@@ -188,6 +189,27 @@ class Crate:
         self.modules = {it[1]: module_of(file) for file, lines in self.lines.items() for it in map(TYPE.match, lines) if it}
         self.functions = [it for file, lines in self.lines.items() for it in functions_in(file, lines, self.modules)]
         self.functions.sort(key=lambda it: it.last - it.first)
+        self.named = {it.name: {other.path for other in self.functions if other.name == it.name} for it in self.functions}
+        self.name = re.compile(rf"(?<!fn )\b({'|'.join(self.named)})(?=\(|::<|[,)])")
+
+    @functools.cached_property
+    def calls(self):
+        """For each function the paths of those that it calls or hands on. Each one with such a name counts."""
+        found = collections.defaultdict(set)
+        for it in self.functions:
+            for name in self.name.findall("\n".join(self.lines[it.file][it.first : it.last + 1])):
+                found[it.path] |= self.named[name]
+        return found
+
+    @functools.cache
+    def called_by(self, path):
+        """The paths of the functions that one calls, and of those that these call in turn, without its own."""
+        found, left = set(), [path]
+        while left:
+            new = self.calls[left.pop()] - found
+            found |= new
+            left += new
+        return found - {path}
 
     def wrong_of(self, edit):
         """The wrong body of an edit; none if its function is not found."""
@@ -207,29 +229,43 @@ class Crate:
                     return Wrong(edit, texts, it, None)
         return None
 
+    def are_apart(self, one, other):
+        """Whether two wrong bodies can stand in one check, the second of them in it already."""
+        path, others = one.function.path, other.function.path
+        if path == others:
+            return one.has_room()
+        return (one.has_room() or path not in self.called_by(others)) and (other.has_room() or others not in self.called_by(path))
+
     def together(self, wrongs):
         """Some wrong bodies in one check."""
         if wrongs[0].lines is None:
             return Tried(wrongs[0].texts, {}, {wrongs[0].edit: wrongs[0].function}, {})
         tried = Tried({}, {}, {}, {})
+        called = set().union(*(self.called_by(it.function.path) for it in wrongs))
         for file in {it.function.file for it in wrongs}:
             lines, moved = [*self.lines[file]], 0
             here = sorted((it for it in wrongs if it.function.file == file), key=lambda it: it.function.first)
             for function, bodies in itertools.groupby(here, key=lambda it: it.function):
                 first = function.first + moved
-                new = self.put_bodies(tried, function, list(bodies), first)
+                new = self.put_bodies(tried, function, list(bodies), first, function.path in called)
                 lines[first : function.last + moved + 1] = new
                 moved = first + len(new) - (function.last + 1)
             tried.texts[file] = "\n".join(lines)
         return tried
 
-    def put_bodies(self, tried, function, bodies, first):
-        """Notes the wrong bodies of a function that begins at a line, and returns all lines: one in its place, and further functions."""
-        all_lines = [*bodies[0].lines]
-        tried.functions[bodies[0].edit] = replace(function, first=first, last=first + len(all_lines) - 1)
-        further = [(it.edit, it.lines) for it in bodies[1:]]
+    def put_bodies(self, tried, function, bodies, first, is_called):
+        """Notes the wrong bodies of a function that begins at a line, and returns all lines: one in its place, which is the right one if
+        another function calls it, and further functions."""
+        right = self.lines[function.file][function.first : function.last + 1]
+        further = [(it.edit, it.lines) for it in bodies]
+        if is_called and all(it.has_room() for it in bodies):
+            all_lines = [*right]
+        else:
+            edit, lines = further.pop(0)
+            all_lines = [*lines]
+            tried.functions[edit] = replace(function, first=first, last=first + len(all_lines) - 1)
         if further and self.proofs_of(function, function):
-            further.append((None, self.lines[function.file][function.first : function.last + 1]))
+            further.append((None, right))
         for number, (edit, lines) in enumerate(further, 2):
             other, lines = named_anew(function, lines, number)
             other = replace(other, first=first + len(all_lines), last=first + len(all_lines) + len(lines) - 1)
@@ -307,16 +343,15 @@ class Crate:
         return found
 
 
-def checks_of(wrongs):
-    """Which wrong bodies are tried together: of a function that has no room for others one, and alone those that change more than a
-    function."""
+def checks_of(crate, wrongs):
+    """Which wrong bodies of a crate are tried together: of a function that has no room for others one, without any of what calls it, and
+    alone those that change more than a function."""
     left = [it for it in wrongs if it.lines is not None]
     while left:
-        first, functions = [], set()
+        first = []
         for it in left:
-            if len(first) < MOST and (it.has_room() or it.function.path not in functions):
+            if len(first) < MOST and all(crate.are_apart(it, other) for other in first):
                 first.append(it)
-                functions.add(it.function.path)
         yield first
         left = [it for it in left if it not in first]
     for it in wrongs:
@@ -324,19 +359,17 @@ def checks_of(wrongs):
             yield [it]
 
 
-def try_alone(crate, edits, flags):
-    """Tries each wrong body in a check of its own, as the toolchain does: over what a check of the crate as it is has proved, and
-    from nothing if that does not settle it."""
+def try_alone(crate, edits, flags, kept):
+    """Tries each wrong body in a check of its own, as the toolchain does: over what is kept, and of several over what a check of the
+    crate as it is has proved besides. It is tried from nothing if that does not settle it."""
     if not KEEPS:
         return must_fail_all(crate, edits, flags)
     tried = []
-    seed = rt.seeded(crate, flags) if len(edits) > 1 else None
+    seed = rt.seeded(crate, flags, kept) if len(edits) > 1 else None
     for edit in edits:
-        kind = None
-        if seed:
-            with tempfile.TemporaryDirectory(prefix="wrong-bodies-") as room:
-                over = shutil.copytree(f"{seed}/seed", f"{room}/kept")
-                kind, text = rt.must_fail(crate, edit, flags, over)
+        with tempfile.TemporaryDirectory(prefix="wrong-bodies-") as room:
+            over = shutil.copytree(f"{seed}/seed" if seed else kept, f"{room}/kept")
+            kind, text = rt.must_fail(crate, edit, flags, over)
         if kind not in rt.SETTLED:
             kind, text = rt.must_fail(crate, edit, flags)
         tried.append((kind, text))
@@ -351,10 +384,13 @@ def try_together(crate, edits, flags):
     wrongs = [it for it in map(tried.wrong_of, edits) if it]
     why = {}
     with tempfile.TemporaryDirectory(prefix="wrong-bodies-") as kept:
-        for check in checks_of(wrongs):
+        for check in checks_of(tried, wrongs):
             why |= tried.refused(check, flags, kept)
-    left = [it for it in edits if it not in why]
-    alone = dict(zip(left, try_alone(crate, left, flags)))
+        left = [it for it in edits if it not in why]
+        begun = time.monotonic()
+        alone = dict(zip(left, try_alone(crate, left, flags, kept)))
+    if left:
+        print(f"{crate.name}: checks of {len(left)} wrong bodies, each alone, took {time.monotonic() - begun:.0f} s", flush=True)
     said = lambda it: f"must-fail {crate.name}/{os.path.basename(it)}: refused, as it must be: {why[it][:160]}"
     return [alone[it] if it in alone else (REFUSED, said(it)) for it in edits]
 
