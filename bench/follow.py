@@ -4,7 +4,8 @@
 usage: follow.py [--events N] [--repeats N] [PROGRAM]
 
 The recording has 1,000,000 events by default, with a quiet moment after each call. Its lines end in LF or in CR LF,
-and no field is quoted, or the last one of each record, or all fields. A last text has the header and as many empty lines.
+and no field is quoted, or the last one of each record, or all fields. Two texts have a stamp in each record, and the stamps rise.
+A last text has the header and as many empty lines.
 
 Times are processor time, user and system, in milliseconds. The runs are made in turn, 5 times by default, and the
 least of each counts. The ratio is the time of following to that of following the lines that end in LF without quotes. All ways of one
@@ -16,7 +17,7 @@ import os
 import sys
 import tempfile
 
-from histories import HEADER, texts_of
+from histories import HEADER, STAMPED, texts_of
 from run import SNAPJUDGE
 from shapes import run
 
@@ -36,13 +37,20 @@ def last_quoted(row):
     return f'{front},"{field}"'
 
 
-# How a recording may be written: the name, what is made of each row, and the end of each line.
+def stamped(rows):
+    """The same rows, each with its number among those under the header as its stamp."""
+    return [STAMPED, *(f"{at},{row}" for at, row in enumerate(rows[1:]))]
+
+
+# How a recording may be written: the name, what is made of all rows, and then of each row, and the end of each line.
 WAYS = (
-    ("LF", str, "\n"),
-    ("CR LF", str, "\r\n"),
-    ("LF, the last field quoted", last_quoted, "\n"),
-    ("LF, all fields quoted", quoted, "\n"),
-    ("CR LF, all fields quoted", quoted, "\r\n"),
+    ("LF", list, str, "\n"),
+    ("CR LF", list, str, "\r\n"),
+    ("LF, the last field quoted", list, last_quoted, "\n"),
+    ("LF, all fields quoted", list, quoted, "\n"),
+    ("CR LF, all fields quoted", list, quoted, "\r\n"),
+    ("LF, with stamps", stamped, str, "\n"),
+    ("LF, with stamps, all fields quoted", stamped, quoted, "\n"),
 )
 
 
@@ -73,7 +81,7 @@ def main():
     check = [program, "check", "--quiet", "--events", str(MOST)]
     with tempfile.TemporaryDirectory() as room:
         rows = texts_of(SHAPE, asked.events)[0].splitlines()
-        texts = [(name, written(room, number, map(change, rows), end)) for number, (name, change, end) in enumerate(WAYS)]
+        texts = [(name, written(room, number, map(change, made(rows)), end)) for number, (name, made, change, end) in enumerate(WAYS)]
         texts.append(("empty lines", written(room, len(WAYS), [HEADER] + [""] * asked.events, "\n")))
         lines = [os.path.join(room, f"lines{number}") for number in range(len(texts))]
         followed, checked = [[] for _ in texts], [[] for _ in texts]

@@ -1,17 +1,16 @@
 -- The record of a line.
-use Rattle.std.proofs.Common.{◌≡◌, ◌≢◌, ◌↔◌, ℕ, Bool, true, false, not, List, [], ◌∷◌, ◌^◌, length, Some, None, Ok, Err, refl, ap, ◌∙◌, inl, inr}
+use Rattle.std.proofs.Common.{◌≡◌, ◌≢◌, ◌↔◌, ℕ, Bool, true, false, not, List, [], ◌∷◌, length, Ok, Err, refl, ap, ◌∙◌, inl, inr}
 use Rattle.std.specs.Prelude.{IsTrue}
 use Rattle.std.specs.Bool.{MatchBool}
 use Rattle.std.proofs.lemmas.Bool.{false≢true}
 use Rattle.snap_core.specs.declared.event.Event.{Event}
-use Rattle.snap_text.specs.declared.fault.TextFault.{TextFault}
 use Rattle.snap_text.specs.declared.fault.TextFault.TheVariants as faults
-use Rattle.snap_text.specs.Fields.{Fields, event_of, number_at, row_event}
+use Rattle.snap_text.specs.Fields.{Fields, event_of, row_event}
 use Rattle.snap_format.specs.Stamps.{stamped_row}
 use Rattle.snap_format.specs.declared.refusal.ReadRefusal.{ReadRefusal}
 use Rattle.snap_format.specs.declared.refusal.ReadRefusal.TheVariants as refusals
 use Rattle.snap_csv.specs.OneLine.{AnswersLine, AnswersStamped, HasFirst}
-use Rattle.snap_rows.specs.Taking.{FailsEvent}
+use Rattle.snap_rows.specs.Taking.{FailsFields}
 use Rattle.snap_rows.proofs.ReadFacts.{event_is}
 
 -- whether another record is after one
@@ -32,7 +31,7 @@ short_event (a ∷ p ∷ o ∷ d ∷ e ∷ r) h = refl
 pub only_event : (place : ℕ) (rows : List Fields) (row : Fields) (x : Event) (a p o d : List ℕ) → HasFirst rows row true → row ≡ a ∷ p ∷ o ∷ d ∷ [] → event_of a p o d ≡ Ok x → (r : Fields) × (rows ≡ r ∷ []) × (row_event r ≡ Ok x)
 only_event place rows row x a p o d h is gives = (row, h.1 ∙ ap (λ z. row ∷ z) (h.2.0 refl), event_is row a p o d is ∙ gives)
 
-pub only_fails : (place : ℕ) (rows : List Fields) (row : Fields) (a p o d : List ℕ) → HasFirst rows row true → row ≡ a ∷ p ∷ o ∷ d ∷ [] → (e : ReadRefusal) → FailsEvent place e (event_of a p o d) → AnswersLine place rows (Err e)
+pub only_fails : (place : ℕ) (rows : List Fields) (row : Fields) (a p o d : List ℕ) → HasFirst rows row true → row ≡ a ∷ p ∷ o ∷ d ∷ [] → (e : ReadRefusal) → FailsFields place e (event_of a p o d) → AnswersLine place rows (Err e)
 only_fails place rows row a p o d h is (refusals.Text q f) x = (x.0, row, h.0, h.1, inl (h.2.0 refl, event_is row a p o d is ∙ x.1))
 only_fails place rows row a p o d h is refusals.Device x = x
 only_fails place rows row a p o d h is refusals.Memory x = tt
@@ -54,29 +53,14 @@ short_stamped (t ∷ a ∷ p ∷ o ∷ []) h = refl
 short_stamped (t ∷ a ∷ p ∷ o ∷ d ∷ []) h = absurd (h refl)
 short_stamped (t ∷ a ∷ p ∷ o ∷ d ∷ e ∷ r) h = refl
 
-no_stamp : (r : Fields) (t a p o d : List ℕ) → r ≡ t ∷ a ∷ p ∷ o ∷ d ∷ [] → None ≡ number_at (2 ^ 64) t → stamped_row r ≡ Err faults.BadAt
-unfolding stamped_row
-no_stamp r t a p o d e h = rw (e, ← h) refl
-
-stamp_fails : (r : Fields) (t a p o d : List ℕ) (at : ℕ) (f : TextFault) → r ≡ t ∷ a ∷ p ∷ o ∷ d ∷ [] → Some at ≡ number_at (2 ^ 64) t → event_of a p o d ≡ Err f → stamped_row r ≡ Err f
-unfolding stamped_row
-stamp_fails r t a p o d at f e h g = rw (e, ← h, g) refl
-
-has_stamp : (r : Fields) (t a p o d : List ℕ) (at : ℕ) (x : Event) → r ≡ t ∷ a ∷ p ∷ o ∷ d ∷ [] → Some at ≡ number_at (2 ^ 64) t → event_of a p o d ≡ Ok x → stamped_row r ≡ Ok (at, x)
-unfolding stamped_row
-has_stamp r t a p o d at x e h g = rw (e, ← h, g) refl
-
 -- the stamp and the event of the only record
-pub only_stamped : (place : ℕ) (rows : List Fields) (row : Fields) (at : ℕ) (x : Event) (t a p o d : List ℕ) → HasFirst rows row true → row ≡ t ∷ a ∷ p ∷ o ∷ d ∷ [] → Some at ≡ number_at (2 ^ 64) t → event_of a p o d ≡ Ok x → (r : Fields) × (rows ≡ r ∷ []) × (stamped_row r ≡ Ok (at, x))
-only_stamped place rows row at x t a p o d h is stamp gives = (row, h.1 ∙ ap (λ z. row ∷ z) (h.2.0 refl), has_stamp row t a p o d at x is stamp gives)
+pub only_stamped : (rows : List Fields) (row : Fields) (x : ℕ × Event) → HasFirst rows row true → stamped_row row ≡ Ok x → (r : Fields) × (rows ≡ r ∷ []) × (stamped_row r ≡ Ok x)
+only_stamped rows row x h gives = (row, h.1 ∙ ap (λ z. row ∷ z) (h.2.0 refl), gives)
 
-pub only_bad : (place : ℕ) (rows : List Fields) (row : Fields) (t a p o d : List ℕ) → HasFirst rows row true → row ≡ t ∷ a ∷ p ∷ o ∷ d ∷ [] → None ≡ number_at (2 ^ 64) t → AnswersStamped place rows (Err (refusals.Text place faults.BadAt))
-only_bad place rows row t a p o d h is none = (refl, row, h.0, h.1, inl (h.2.0 refl, no_stamp row t a p o d is none))
-
-pub only_stamped_fails : (place : ℕ) (rows : List Fields) (row : Fields) (t a p o d : List ℕ) (at : ℕ) → HasFirst rows row true → row ≡ t ∷ a ∷ p ∷ o ∷ d ∷ [] → Some at ≡ number_at (2 ^ 64) t → (e : ReadRefusal) → FailsEvent place e (event_of a p o d) → AnswersStamped place rows (Err e)
-only_stamped_fails place rows row t a p o d at h is stamp (refusals.Text q f) x = (x.0, row, h.0, h.1, inl (h.2.0 refl, stamp_fails row t a p o d at f is stamp x.1))
-only_stamped_fails place rows row t a p o d at h is stamp refusals.Device x = x
-only_stamped_fails place rows row t a p o d at h is stamp refusals.Memory x = tt
+pub only_stamped_fails : (place : ℕ) (rows : List Fields) (row : Fields) → HasFirst rows row true → (e : ReadRefusal) → FailsFields place e (stamped_row row) → AnswersStamped place rows (Err e)
+only_stamped_fails place rows row h (refusals.Text q f) x = (x.0, row, h.0, h.1, inl (h.2.0 refl, x.1))
+only_stamped_fails place rows row h refusals.Device x = x
+only_stamped_fails place rows row h refusals.Memory x = tt
 
 pub no_stamped : (place : ℕ) (rows : List Fields) (row : Fields) (only : Bool) → HasFirst rows row only → (only ≡ true → length row ≢ 5) → AnswersStamped place rows (Err (refusals.Text place faults.Fields))
 no_stamped place rows row true h short = (refl, row, h.0, h.1, inl (h.2.0 refl, short_stamped row (short refl)))

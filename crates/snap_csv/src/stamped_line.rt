@@ -7,8 +7,9 @@ use crate::line::only_row;
 use csv::ByteRecord;
 use snap_core::Event;
 use snap_format::ReadRefusal;
-use snap_rows::event_of_record;
-use snap_text::{Known, TextFault, stamp_of};
+use snap_plain::plain_stamped;
+use snap_rows::stamped_of_record;
+use snap_text::{Known, TextFault};
 use std::alloc::{AllocError, Global};
 
 /// Whether a line is the header of a text whose records have stamps, and nothing else; none if the line has no record.
@@ -32,20 +33,17 @@ pub fn read_stamped_line(
 ) -> Result<Option<(u64, Event)>, ReadRefusal>
     ensures { AnswersStamped place (rows_of line.now) result }
 {
+    if let Some(found) = plain_stamped(alloc, known, line) {
+        return Ok(Some(found));
+    }
     let mut row = ByteRecord::new(alloc);
     let Some(only) = only_row(alloc, line, &mut row)? else {
         return Ok(None);
     };
     if only {
-        if let Some((at, event, process, op, data)) = five_fields(&row) {
-            let Some(at) = stamp_of(at) else {
-                return Err(ReadRefusal::Text {
-                    place,
-                    fault: TextFault::BadAt,
-                });
-            };
-            let event = event_of_record(alloc, known, place, event, process, op, data)?;
-            return Ok(Some((at, event)));
+        if let Some(fields) = five_fields(&row) {
+            let found = stamped_of_record(alloc, known, place, fields)?;
+            return Ok(Some(found));
         }
     }
     Err(ReadRefusal::Text {

@@ -20,7 +20,7 @@ ghost use Rattle.snap_follow.specs.Followed.{EndsText, HasNoRecord, HasRead, IsL
 ghost use Rattle.snap_follow.specs.inside.Waits.{TakesTurn, WaitsAfter};
 
 use crate::form::{Form, agrees, header_of};
-use crate::quotes::unquote;
+use crate::quotes::without_quotes;
 use crate::span::{Place, Span};
 use crate::waiting::{Turn, Waiting};
 use snap_core::{Event, EventRefusal, Limit};
@@ -228,16 +228,14 @@ impl Follow {
         self.take_event(alloc, &turn.event, turn.place)
     }
 
-    // The event of a line under the header. Quotes that no field needs are taken off first, since a reader of `csv` costs much more.
+    // The event of a line under the header.
     fn read_event(&mut self, alloc: Global, line: &[u8]) -> Result<Option<Event>, ReadRefusal>
         ensures event { AnswersLine 0 (rows_of line.now) result }
         ensures same { (self.new.judge ≡ self.old.judge) × (self.new.span ≡ self.old.span) × (self.new.least ≡ self.old.least) × (self.new.open_calls ≡ self.old.open_calls) }
         ensures kept { (self.new.headed ≡ self.old.headed) × (self.new.form ≡ self.old.form) × (self.new.waiting ≡ self.old.waiting) × (self.new.given ≡ self.old.given) × (self.new.place ≡ self.old.place) }
         ensures late { self.new.late ≡ self.old.late }
     {
-        if unquote(line, &mut self.bare)? {
-            return read_line(alloc, &mut self.known, &self.bare, 0);
-        }
+        let line = without_quotes(line, &mut self.bare)?;
         read_line(alloc, &mut self.known, line, 0)
     }
 
@@ -249,6 +247,7 @@ impl Follow {
         ensures waits { OnOk result (WaitsWithin self.old self.new) }
         ensures stamped { IfErr result (RefusesStamped self.old line.now) }
     {
+        let line = without_quotes(line, &mut self.bare)?;
         let (at, event) = match read_stamped_line(alloc, &mut self.known, line, 0) {
             Ok(None) => return Ok(()),
             Ok(Some(found)) => found,

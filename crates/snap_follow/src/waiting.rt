@@ -47,22 +47,31 @@ impl Waiting {
         self.turns.len()
     }
 
-    // How many of the records come before a stamp; none if one of them has this stamp. Most come last, so the search begins there.
+    // How many of the records come before a stamp; none if one of them has this stamp. Most come last, so the search begins there: it goes
+    // back in steps that double, and then by halves.
     fn rank(&self, at: u64) -> Option<usize>
         ensures { MatchOption result (HasStamp self.now.turns.items at) (FitsAt self.now.turns.items at) }
     {
-        let mut rank = self.turns.len();
-        while rank > 0 {
-            let before = self.turns[rank - 1].at;
-            if before == at {
+        let (mut low, mut high) = (0, self.turns.len());
+        let mut step: usize = 1;
+        while low < high {
+            let middle = if low == 0 {
+                high.saturating_sub(step)
+            } else {
+                low + (high - low) / 2
+            };
+            let found = self.turns[middle].at;
+            if found == at {
                 return None;
             }
-            if before < at {
-                return Some(rank);
+            if found < at {
+                low = middle + 1;
+            } else {
+                high = middle;
+                step = step.saturating_mul(2);
             }
-            rank -= 1;
         }
-        Some(rank)
+        Some(low)
     }
 
     /// Adds a record. Answers whether no other has its stamp; otherwise nothing changes. The error is want of memory.

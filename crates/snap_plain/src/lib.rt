@@ -11,5 +11,5 @@ mod pieces;
 mod rings;
 
 pub use beside::history_of_lines_shared;
-pub use line::plain_event;
+pub use line::{plain_event, plain_stamped};
 pub use lines::{Lines, history_of_lines, is_plain, lines_of};

@@ -24,7 +24,7 @@ use Rattle.snap_format.specs.Layout.{is_header_row, is_stamped_header_row}
 use Rattle.snap_format.specs.Faults.{event_in, events_in, fault_of, fault_with, fault_at, row_fault}
 use Rattle.snap_format.specs.Texts.{RowsFault}
 use Rattle.snap_rows.specs.Stamping.{AnswersStamps, RefusesStamps}
-use Rattle.snap_rows.specs.Taking.{AnswersNumbered, FailsEvent, Midway, RefusesFault, RefusesRow, RefusesRows, TakesRest, TakesRow}
+use Rattle.snap_rows.specs.Taking.{AnswersNumbered, FailsFields, Midway, RefusesFault, RefusesRow, RefusesRows, TakesRest, TakesRow}
 
 -- ---- one record
 
@@ -52,7 +52,7 @@ unfolding row_event
 event_is r a p o d e = rw e refl
 
 pub row_fails : (limit : ℕ) (place : ℕ) (old : List Event) (r : Fields) (a p o d : List ℕ) (e : ReadRefusal) → r ≡ a ∷ p ∷ o ∷ d ∷ [] → length old < limit
-    → FailsEvent place e (event_of a p o d) → RefusesRow limit place old r e
+    → FailsFields place e (event_of a p o d) → RefusesRow limit place old r e
 row_fails limit place old r a p o d (refusals.Text q f) e h g = (g.0, row_fits limit old r a p o d e h ∙ rw g.1 refl)
 row_fails limit place old r a p o d refusals.Device e h g = g
 row_fails limit place old r a p o d refusals.Memory e h g = tt

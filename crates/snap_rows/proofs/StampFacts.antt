@@ -10,7 +10,6 @@ use Rattle.std.proofs.lemmas.List.{drop_all, get_or_append_left, length-append, 
 use Rattle.std.proofs.Math.Seq.{drop-cons, get_or-append_seam, take-suc}
 use Rattle.snap_core.specs.Limited.{LimitedEvents}
 use Rattle.snap_core.specs.declared.event.Event.{Event}
-use Rattle.snap_text.specs.declared.fault.TextFault.{TextFault}
 use Rattle.snap_text.specs.declared.fault.TextFault.TheVariants as faults
 use Rattle.snap_format.specs.declared.refusal.ReadRefusal.{ReadRefusal}
 use Rattle.snap_format.specs.declared.refusal.ReadRefusal.TheVariants as refusals
@@ -18,7 +17,7 @@ use Rattle.snap_format.specs.declared.stamped.Stamped.{Stamped}
 use Rattle.snap_text.specs.Fields.{Fields, event_of, number_at}
 use Rattle.snap_format.specs.Stamps.{InOrder, NoneOf, events_of, nothing, order_at, places_of, repeat_fault, shape_at, shape_fault, stamped_in, stamped_row, stamps_of}
 use Rattle.snap_rows.specs.Stamping.{AnswersStamps, FirstRecords, IsRecord, ReadsStamped, RefusesNext, RefusesStamped, RefusesStamps, RefusesTurns, TakesStamped, TakesTurns}
-use Rattle.snap_rows.specs.Taking.{FailsEvent, TakesEvent}
+use Rattle.snap_rows.specs.Taking.{FailsFields, TakesEvent}
 use Rattle.snap_rows.proofs.ReadFacts.{at_drop, full_fails}
 
 -- ---- one record
@@ -42,17 +41,19 @@ row_fits limit n earlier r t a p o d e h =
     let test : nat_le limit n ≡ false = grind (arith, nat_tests) in
     rw (five_long r t a p o d e, test) refl
 
-no_stamp : (r : Fields) (t a p o d : List ℕ) → r ≡ t ∷ a ∷ p ∷ o ∷ d ∷ [] → None ≡ number_at (2 ^ 64) t → stamped_row r ≡ Err faults.BadAt
+pub no_stamp : (t a p o d : List ℕ) → None ≡ number_at (2 ^ 64) t → stamped_row (t ∷ a ∷ p ∷ o ∷ d ∷ []) ≡ Err faults.BadAt
 unfolding stamped_row
-no_stamp r t a p o d e h = rw (e, ← h) refl
+no_stamp t a p o d h = rw (← h) refl
 
-no_event : (r : Fields) (t a p o d : List ℕ) (at : ℕ) (f : TextFault) → r ≡ t ∷ a ∷ p ∷ o ∷ d ∷ [] → Some at ≡ number_at (2 ^ 64) t → event_of a p o d ≡ Err f → stamped_row r ≡ Err f
+pub no_event : (place : ℕ) (t a p o d : List ℕ) (at : ℕ) (e : ReadRefusal) → Some at ≡ number_at (2 ^ 64) t → FailsFields place e (event_of a p o d) → FailsFields place e (stamped_row (t ∷ a ∷ p ∷ o ∷ d ∷ []))
 unfolding stamped_row
-no_event r t a p o d at f e h g = rw (e, ← h, g) refl
+no_event place t a p o d at (refusals.Text q f) h g = (g.0, rw (← h, g.1) refl)
+no_event place t a p o d at refusals.Device h g = g
+no_event place t a p o d at refusals.Memory h g = tt
 
-has_event : (r : Fields) (t a p o d : List ℕ) (at : ℕ) (x : Event) → r ≡ t ∷ a ∷ p ∷ o ∷ d ∷ [] → Some at ≡ number_at (2 ^ 64) t → event_of a p o d ≡ Ok x → stamped_row r ≡ Ok (at, x)
+pub has_event : (t a p o d : List ℕ) (at : ℕ) (x : Event) → Some at ≡ number_at (2 ^ 64) t → event_of a p o d ≡ Ok x → stamped_row (t ∷ a ∷ p ∷ o ∷ d ∷ []) ≡ Ok (at, x)
 unfolding stamped_row
-has_event r t a p o d at x e h g = rw (e, ← h, g) refl
+has_event t a p o d at x h g = rw (← h, g) refl
 
 -- a record is taken only where the history is not full
 has_room : (limit : ℕ) (n : ℕ) (earlier : List ℕ) (r : Fields) → shape_fault limit n earlier r ≡ None → n < limit
@@ -65,24 +66,15 @@ has_room limit n earlier r h = elim (cases_lt n limit) [
 pub one_longer : (limit : ℕ) (place : ℕ) (old new : List Stamped) (r : Fields) → TakesStamped limit place old new r (Ok tt) → (length old < limit) × (length new ≡ length old + 1)
 one_longer limit place old new r (none, x, is, longer) = (has_room limit _ _ r none, rw longer (omega (arith, length-append old (record { at = x.0; place = place; event = x.1 } ∷ []))))
 
-pub row_bad_at : (limit : ℕ) (n : ℕ) (earlier : List ℕ) (r : Fields) (t a p o d : List ℕ) → r ≡ t ∷ a ∷ p ∷ o ∷ d ∷ [] → n < limit → None ≡ number_at (2 ^ 64) t → shape_fault limit n earlier r ≡ Some faults.BadAt
-row_bad_at limit n earlier r t a p o d e lt h = row_fits limit n earlier r t a p o d e lt ∙ ap (repeat_fault earlier) (no_stamp r t a p o d e h)
+pub row_fails : (limit : ℕ) (place : ℕ) (old : List Stamped) (r : Fields) (t a p o d : List ℕ) (e : ReadRefusal) → r ≡ t ∷ a ∷ p ∷ o ∷ d ∷ [] → length old < limit
+    → FailsFields place e (stamped_row r) → RefusesStamped limit place old r e
+row_fails limit place old r t a p o d (refusals.Text q f) e lt g = (g.0, row_fits limit (length old) [] r t a p o d e lt ∙ ap (repeat_fault []) g.1)
+row_fails limit place old r t a p o d refusals.Device e lt g = g
+row_fails limit place old r t a p o d refusals.Memory e lt g = tt
 
-pub row_fails : (limit : ℕ) (place : ℕ) (old : List Stamped) (r : Fields) (t a p o d : List ℕ) (at : ℕ) (e : ReadRefusal) → r ≡ t ∷ a ∷ p ∷ o ∷ d ∷ [] → length old < limit
-    → Some at ≡ number_at (2 ^ 64) t → FailsEvent place e (event_of a p o d) → RefusesStamped limit place old r e
-row_fails limit place old r t a p o d at (refusals.Text q f) e lt h g =
-    (g.0, row_fits limit (length old) [] r t a p o d e lt ∙ ap (repeat_fault []) (no_event r t a p o d at f e h g.1))
-row_fails limit place old r t a p o d at refusals.Device e lt h g = g
-row_fails limit place old r t a p o d at refusals.Memory e lt h g = tt
-
-pub row_taken : (limit : ℕ) (place : ℕ) (old new : List Stamped) (r : Fields) (t a p o d : List ℕ) (at : ℕ) (x : Event) → r ≡ t ∷ a ∷ p ∷ o ∷ d ∷ [] → length old < limit
-    → Some at ≡ number_at (2 ^ 64) t → event_of a p o d ≡ Ok x → new ≡ old ++ record { at = at; place = place; event = x } ∷ [] → TakesStamped limit place old new r (Ok tt)
-row_taken limit place old new r t a p o d at x e lt h g is = (
-  row_fits limit (length old) [] r t a p o d e lt ∙ ap (repeat_fault []) (has_event r t a p o d at x e h g),
-  (at, x),
-  has_event r t a p o d at x e h g,
-  is,
-)
+pub row_taken : (limit : ℕ) (place : ℕ) (old new : List Stamped) (r : Fields) (t a p o d : List ℕ) (x : ℕ × Event) → r ≡ t ∷ a ∷ p ∷ o ∷ d ∷ [] → length old < limit
+    → stamped_row r ≡ Ok x → new ≡ old ++ record { at = x.0; place = place; event = x.1 } ∷ [] → TakesStamped limit place old new r (Ok tt)
+row_taken limit place old new r t a p o d x e lt g is = (row_fits limit (length old) [] r t a p o d e lt ∙ ap (repeat_fault []) g, x, g, is)
 
 -- ---- one record after the other
 

@@ -64,15 +64,15 @@ abbrev pub TakesEvent : ℕ → ℕ → List Event → List Event → Event → 
 TakesEvent limit place old new x (Ok u) = (fault_with limit old (Ok x) ≡ None) × (new ≡ old ++ x ∷ [])
 TakesEvent limit place old new x (Err e) = RefusesFault place (fault_with limit old (Ok x)) e
 
--- the answer for the event of four fields
-abbrev pub FailsEvent : ℕ → ReadRefusal → Result Event TextFault → Type 0
-FailsEvent place (refusals.Text p f) read = (p ≡ place) × (read ≡ Err f)
-FailsEvent place refusals.Device read = ⊥
-FailsEvent place refusals.Memory read = Unit {0}
+-- the answer for what the fields of a record spell
+abbrev pub FailsFields : {X : Type 0} → ℕ → ReadRefusal → Result X TextFault → Type 0
+FailsFields place (refusals.Text p f) read = (p ≡ place) × (read ≡ Err f)
+FailsFields place refusals.Device read = ⊥
+FailsFields place refusals.Memory read = Unit {0}
 
-abbrev pub GivesEvent : ℕ → Result Event ReadRefusal → Result Event TextFault → Type 0
-GivesEvent place (Ok x) read = read ≡ Ok x
-GivesEvent place (Err e) read = FailsEvent place e read
+abbrev pub GivesFields : {X : Type 0} → ℕ → Result X ReadRefusal → Result X TextFault → Type 0
+GivesFields place (Ok x) read = read ≡ Ok x
+GivesFields place (Err e) read = FailsFields place e read
 
 -- all records that were left are taken, or the first fault
 abbrev pub TakesRest : ℕ → List Fields → LimitedEvents → Result (Unit {0}) ReadRefusal → Type 0

@@ -1,12 +1,13 @@
 //! The fields of one record: whether they are a header, and the event that they spell.
 ghost use Rattle.std.specs.Prelude.{◌≡◌, ◌∷◌, []};
 ghost use Rattle.snap_format.specs.Layout.{is_header_row, is_stamped_header_row};
-ghost use Rattle.snap_rows.specs.Taking.{GivesEvent};
+ghost use Rattle.snap_format.specs.Stamps.{stamped_row};
+ghost use Rattle.snap_rows.specs.Taking.{GivesFields};
 ghost use Rattle.snap_text.specs.Fields.{event_of};
 
 use snap_core::Event;
 use snap_format::ReadRefusal;
-use snap_text::Known;
+use snap_text::{Known, TextFault, stamp_of};
 use std::alloc::Global;
 
 /// Whether four fields are those of the header.
@@ -38,10 +39,31 @@ pub fn event_of_record(
     op: &[u8],
     text: &[u8],
 ) -> Result<Event, ReadRefusal>
-    ensures { GivesEvent place result (event_of event.now process.now op.now text.now) }
+    ensures { GivesFields place result (event_of event.now process.now op.now text.now) }
 {
     match snap_text::event_of_fields(alloc, known, event, process, op, text)? {
         Ok(event) => Ok(event),
         Err(fault) => Err(ReadRefusal::Text { place, fault }),
     }
+}
+
+/// The stamp and the event that the five fields of a record at a place spell, or the first fault in them.
+#[inline(always)]
+pub fn stamped_of_record(
+    alloc: Global,
+    known: &mut Known,
+    place: u32,
+    fields: (&[u8], &[u8], &[u8], &[u8], &[u8]),
+) -> Result<(u64, Event), ReadRefusal>
+    ensures { GivesFields place result (stamped_row (fields.entry.0.now ∷ fields.entry.1.now ∷ fields.entry.2.now ∷ fields.entry.3.now ∷ fields.entry.4.now ∷ [])) }
+{
+    let (at, event, process, op, data) = fields;
+    let Some(at) = stamp_of(at) else {
+        return Err(ReadRefusal::Text {
+            place,
+            fault: TextFault::BadAt,
+        });
+    };
+    let event = event_of_record(alloc, known, place, event, process, op, data)?;
+    Ok((at, event))
 }

@@ -4,12 +4,12 @@ ghost use Rattle.snap_format.specs.Stamps.{places_of};
 ghost use Rattle.snap_rows.specs.Stamping.{AnswersStamps, ReadsStamped, TakesStamped, TakesTurns};
 ghost use Rattle.snap_text.specs.Fields.{Fields};
 
-use crate::fields::event_of_record;
+use crate::fields::stamped_of_record;
 use crate::repeats::{are_rising, repeated_place, sort_by_stamp};
 use crate::taking::push_event;
 use snap_core::{History, Limit};
 use snap_format::{ReadRefusal, Stamped};
-use snap_text::{Known, TextFault, stamp_of};
+use snap_text::{Known, TextFault};
 use std::alloc::{AllocError, Global};
 
 /// Adds the stamped event of a record to those before it, by the record's five fields. It does not check that the stamp is new.
@@ -29,14 +29,7 @@ pub fn take_stamped(
             fault: TextFault::TooMany,
         });
     }
-    let (at, event, process, op, entries) = fields;
-    let Some(at) = stamp_of(at) else {
-        return Err(ReadRefusal::Text {
-            place,
-            fault: TextFault::BadAt,
-        });
-    };
-    let event = event_of_record(alloc, known, place, event, process, op, entries)?;
+    let (at, event) = stamped_of_record(alloc, known, place, fields)?;
     stamped.push(Stamped { at, place, event })?;
     Ok(())
 }
