@@ -47,19 +47,22 @@ def is_front(text, whole):
     return text == whole or (text.endswith("…") and whole.startswith(text[:-1]))
 
 
-def try_bar(count, where, bar, call, marks, place, columns, step):
+def try_bar(count, where, bar, call, marks, beside, columns, step):
     count.same(bar.process, call.process, f"{where}: its lane")
     count.same(bar.kind, call.kind, f"{where}: its kind")
     count.same(ENDS[bar.end_sign], call.kind if call.end else None, f"{where}: its end")
     count.same(bar.begin, columns[call.begin] * step, f"{where}: where it begins")
     count.same(bar.end, (columns[call.end] if call.end else len(columns)) * step, f"{where}: where it ends")
     count.same(bar.is_marked, bool(marks), f"{where}: its mark")
-    wanted = f"#{place}" if place else " ".join(kind for kind in ("integrity", "proximity", "read", "write") if kind in marks)
+    kinds = " ".join(kind for kind in ("integrity", "proximity", "read", "write") if kind in marks)
+    wanted = ", ".join(it for it in (kinds, beside) if it)
     count.expect(is_front(bar.note, wanted), f"{where}: below it stands {bar.note}, and not {wanted}")
 
 
-def try_lines(count, name, text, calls, faults, order, said):
-    """Each call has its bar, from its begin to its end, with its marks. What is wrong is said, and what is cut is said in full."""
+def try_lines(count, name, text, calls, faults, order, said, sources=()):
+    """Each call has its bar, from its begin to its end, with its marks. What is wrong is said, and what is cut is said in full. Where
+    the calls are made from those of a run, the numbers of these stand below the bars."""
+    sources = dict(enumerate(sources, 1))
     picture = LinePicture(text)
     records = sorted(record for call in calls.values() for record in (call.begin, call.end) if record)
     columns = {record: column for column, record in enumerate(records)}
@@ -78,12 +81,13 @@ def try_lines(count, name, text, calls, faults, order, said):
             continue
         call, where = calls[number], f"{name}: call {number}"
         marks = {kind for kind, members in faults.items() if number in members}
-        try_bar(count, where, bar, call, marks, order.index(number) + 1 if number in order else None, columns, step)
+        beside = f"call {sources[number]} of the run" if number in sources else f"#{order.index(number) + 1}" if number in order else ""
+        try_bar(count, where, bar, call, marks, beside, columns, step)
         label = f"{number} {call.kind} {call.data}".strip()
         count.expect(is_front(bar.label, label), f"{where}: its label is {bar.label}")
         has_room = len(label) + bar.is_marked <= bar.room
         count.same(bar.label == label, has_room, f"{where}: its label is cut")
-        cut += [] if has_room else [call.title(number)]
+        cut += [] if has_room else [call.title(number, sources.get(number))]
     count.same(picture.cut, cut, f"{name}: calls whose labels are cut")
 
 
@@ -103,4 +107,11 @@ WRONG = {
     "a record stands above another column": (r"record  2 ", "record   2"),
     "a fault has no sentence": (r"\nread: .*?\n", "\n"),
     "calls are left out": (r"\n\nrecord", "\n\ncalls drawn 3, left out 1\nrecord"),
+}
+# What is changed in the picture of the witness of recorded-1, so that it is wrong.
+WRONG_BESIDE = {
+    "a call has the number of another one": (r"call 5 of the run", "call 6 of the run"),
+    "a call has no number of the run": (r"write, call 7 of the run", "write"),
+    "a call has its own number twice": (r"call 4 of the run", "call 1 of the run"),
+    "a call whose label is cut has none": (r" \(call 7 of the run\)", ""),
 }

@@ -16,9 +16,10 @@ class Call:
     def __init__(self, process, kind, data, begin):
         self.process, self.kind, self.data, self.begin, self.end = process, kind, data, begin, None
 
-    def title(self, number):
+    def title(self, number, source=None):
         records = f"record {self.begin}, pending" if self.end is None else f"records {self.begin} and {self.end}"
-        return f"call {number} of process {self.process}, {records}: {self.kind} {self.data}".strip()
+        beside = f" (call {source} of the run)" if source else ""
+        return f"call {number}{beside} of process {self.process}, {records}: {self.kind} {self.data}".strip()
 
 
 def calls_of(text):
@@ -59,6 +60,22 @@ def faults_of(report, calls):
         elif words[0].isdigit():
             order.append(int(words[0]))
     return faults, order
+
+
+def kept_of(report, calls):
+    """The numbers of the calls that a witness keeps: those of the first fault that a report has, and the updates that show it."""
+    faults, _ = faults_of(report, calls)
+    kind = next((it for it in ("integrity", "proximity", "read", "write") if it in faults), None)
+    kept = set(faults.get(kind, ()))
+    if kind == "read":
+        one, other = map(int, re.search(r"^read \d+ first view (\d+) view (\d+)", report, re.MULTILINE).groups())
+        shown = {at: {int(k): int(n) for k, n, _ in (it.split(":") for it in calls[at].data.split())} for at in (one, other)}
+        entries = {tuple(map(int, call.data.split(":")[:2])): at for at, call in calls.items() if call.kind == "update"}
+        pairs = [(one, other)] + [(other, one)] * (not calls[one].end < calls[other].begin)
+        for more, less in pairs:
+            component = min((k for k, n in shown[more].items() if n > shown[less].get(k, 0)), default=None)
+            kept |= {entries[component, shown[more][component]]} if component is not None else set()
+    return sorted(kept)
 
 
 class Box:

@@ -22,9 +22,9 @@ import tempfile
 import xml.etree.ElementTree as tree
 
 from browser import Browser
-from drawn_lines import WRONG as WRONG_LINES, LinePicture, try_lines
+from drawn_lines import WRONG as WRONG_LINES, WRONG_BESIDE, LinePicture, try_lines
 from long_pictures import try_long, try_pieces
-from pictures import SVG, WIDEST, Picture, bar_box, calls_of, faults_of, folded, number, points_of, text_box
+from pictures import SVG, WIDEST, Picture, bar_box, calls_of, faults_of, folded, kept_of, number, points_of, text_box
 from rendered import try_colours
 from wrong_pictures import WRONG, WRONG_COLOURS, WRONG_FOLDED, WRONG_ORDERS, WRONG_PAGES
 
@@ -331,8 +331,22 @@ def try_text(count, program, path, status):
     count.same(beside_status, status, f"{name}: status of the explanation")
     count.expect(beside.startswith(explanation + "\n"), f"{name}: the explanation is not above the picture")
     count.same([line for line in beside[len(explanation):].split("\n") if line], lanes, f"{name}: the picture below the explanation")
+    witness_status, witness = asked(program, "shrink", "--draw", path)
+    count.same(witness_status, status, f"{name}: status of the picture of the witness")
+    try_beside(count, program, name, path, witness)
+
+
+def try_beside(count, program, name, path, text):
+    """The picture of a witness: beside the numbers of its calls stand those of the run, and an atomic run is left whole."""
+    sources = kept_of(path.with_suffix(".report").read_text(), calls_of(path.read_text()))
     witness = asked(program, "shrink", path)[1]
-    count.same(asked(program, "shrink", "--draw", path), (status, asked(program, "draw", "--text", given=witness)[1]), f"{name}: the picture of the witness")
+    report, said = (asked(program, word, given=witness)[1] for word in ("check", "explain"))
+    faults, order = faults_of(report, calls_of(witness))
+    if sources:
+        count.same(text.split("\n")[0], said.split(":")[0], f"{name}: verdict of its witness")
+        try_lines(count, f"{name}, its witness", text, calls_of(witness), faults, order, said.splitlines(), sources)
+    else:
+        count.same(text, asked(program, "draw", "--text", path)[1], f"{name}: the picture of a run that is left whole")
 
 
 def try_picture(count, name, text, history, report, said):
@@ -401,6 +415,13 @@ def try_tests(count, program, browser):
         with contextlib.redirect_stdout(io.StringIO()):
             try_lines(found, what, wrong, calls, faults, order, said)
         count.expect(wrong != lines and found.failed > 0, f"lines are not found wrong where {what}")
+    path = TOP / "examples/recorded-1.csv"
+    lines = asked(program, "shrink", "--draw", path)[1]
+    for what, (old, new) in WRONG_BESIDE.items():
+        wrong, found = re.sub(old, new, lines, count=1, flags=re.S), Count()
+        with contextlib.redirect_stdout(io.StringIO()):
+            try_beside(found, program, what, path, wrong)
+        count.expect(wrong != lines and found.failed > 0, f"the picture of a witness is not found wrong where {what}")
 
 
 def try_longest(count, program):

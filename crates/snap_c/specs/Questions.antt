@@ -1,12 +1,12 @@
 -- What may be asked of a text, and what the program answers to that.
 use Rattle.std.specs.Prelude.{ℕ, ◌-◌, ◌==◌, ◌||◌, List, [], ◌∷◌, codes, Option, Some, None, if◌then◌else◌, nat_lt, slice_get}
 use Rattle.std.specs.Str.Lossy.{utf8_lossy}
-use Rattle.snap_draw.specs.declared.window.TheConstants.{LINE_CALLS, MOST_CALLS}
+use Rattle.snap_options.specs.declared.limits.TheConstants.{FAULT_LIMIT, LINE_CALLS, MOST_CALLS}
 use Rattle.snap_draw.specs.declared.window.Place.{Place}
 use Rattle.snap_draw.specs.declared.window.Place.TheVariants.{Faults, From, Around}
 use Rattle.snap_draw.specs.declared.window.Window.{Window}
 use Rattle.snap_draw.specs.Window.{usual_lines, usual_page}
-use Rattle.snap_draw.specs.declared.svg.scheme.Scheme.TheVariants.{Light, Dark}
+use Rattle.snap_options.specs.declared.scheme.Scheme.TheVariants.{Light, Dark}
 use Rattle.snap_explain.specs.declared.view.Entries.TheVariants.{OfFault, Whole}
 use Rattle.snap_verdict.specs.declared.status.Status.{Status}
 use Rattle.snap_verdict.specs.Reports.{IsReport}
@@ -47,9 +47,9 @@ IsAnswerTo CountsObject limit text = IsCertain (IsCounted (Some (codes "-")) lim
 abbrev pub explanations : List Question
 explanations = Explanation OfFault 1 ∷ ExplanationDrawn OfFault ∷ Explanation Whole 1 ∷ ExplanationDrawn Whole ∷ []
 
--- explanations by 1 to 1000 faults of a kind
+-- explanations by at least one fault of a kind, and at most as many as the limit
 abbrev pub explanation_of : ℕ → ℕ → Option Question
-explanation_of whole faults = if (faults == 0) || nat_lt 1000 faults then None else slice_get (Explanation OfFault faults ∷ Explanation Whole faults ∷ []) whole
+explanation_of whole faults = if (faults == 0) || nat_lt FAULT_LIMIT faults then None else slice_get (Explanation OfFault faults ∷ Explanation Whole faults ∷ []) whole
 
 abbrev pub witnesses : List Question
 witnesses = Witness ∷ WitnessDrawn ∷ WitnessMap ∷ []

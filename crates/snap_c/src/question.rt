@@ -8,8 +8,9 @@ ghost use Rattle.snap_c.specs.Questions.{IsAnswerTo, calls_asked as spec_calls_a
 
 use snap_check::{Alone, RunFault, Status};
 use snap_core::{Counted, Limit};
-use snap_draw::{LINE_CALLS, MOST_CALLS, Place, Scheme, Window};
+use snap_draw::{Place, Window};
 use snap_explain::Entries;
+use snap_options::{FAULT_LIMIT, LINE_CALLS, MOST_CALLS, Scheme};
 use snap_runs::{
     Explained, Lines, Page, Svg, draw_input, draw_witness_input, explain_input, map_input,
     shrink_input, stats_input, tell_input,
@@ -53,9 +54,6 @@ pub(crate) fn chosen<'n>(questions: &[Question<'n>], number: u32) -> Option<Ques
     questions.get(number as usize).copied()
 }
 
-// The greatest number of faults of a kind that an explanation has.
-const FAULT_LIMIT: u32 = 1000;
-
 /// The explanation by this many faults of a kind: as by `--all` if `whole` is 1, and not if it is 0. None if it is more, and if the
 /// number of faults is not 1 to 1,000.
 pub(crate) fn explanation_of<'n>(whole: u32, faults: u32) -> Option<Question<'n>>
@@ -77,7 +75,7 @@ pub(crate) fn explanation_of<'n>(whole: u32, faults: u32) -> Option<Question<'n>
 const LINES: u32 = 2;
 
 // The most calls that a form may be asked for.
-fn most_calls(form: u32) -> usize
+fn most_calls(form: u32) -> u32
     ensures { result ≡ spec_most_calls form }
 {
     if form == LINES {
@@ -132,7 +130,7 @@ pub(crate) fn window_asked(form: u32, calls: u32, from: u32, around: u32) -> Opt
     ensures { result ≡ spec_window_asked form calls from around }
 {
     let calls = calls_asked(form, calls);
-    if most_calls(form) < calls {
+    if (most_calls(form) as usize) < calls {
         return None;
     }
     match place_asked(from, around) {

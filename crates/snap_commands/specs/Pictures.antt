@@ -2,9 +2,10 @@
 use Rattle.std.specs.Prelude.{ℕ, ◌-◌, List, Option, unwrap_or}
 use Rattle.snap_draw.specs.declared.window.Place.{Place as At}
 use Rattle.snap_draw.specs.declared.window.Place.TheVariants.{Faults as AtFaults, From as AtFrom, Around as AtAround}
-use Rattle.snap_draw.specs.declared.window.TheConstants.{LINE_CALLS, MOST_CALLS, PAGE_CALLS}
+use Rattle.snap_draw.specs.declared.window.TheConstants.{PAGE_CALLS}
 use Rattle.snap_draw.specs.declared.window.Window.{Window}
 use Rattle.snap_explain.specs.declared.view.Entries.TheVariants.{OfFault}
+use Rattle.snap_options.specs.declared.limits.TheConstants.{LINE_CALLS, MOST_CALLS}
 use Rattle.snap_runs.specs.Drawing.{IsDrawn}
 use Rattle.snap_runs.specs.Markups.{is_lines, is_page, is_svg}
 use Rattle.snap_verdict.specs.declared.status.Status.{Status}

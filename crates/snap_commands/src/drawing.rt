@@ -1,5 +1,5 @@
 //! The run of `draw`: a part from a reader to a writer, and its start on the system.
-ghost use Rattle.std.specs.Prelude.{◌≡◌, None, Some, unwrap_or};
+ghost use Rattle.std.specs.Prelude.{◌≡◌, unwrap_or};
 ghost use Rattle.snap_check.specs.Runs.{WroteBy};
 ghost use Rattle.snap_commands.specs.Pictures.{IsPicture, place_of as spec_place_of, usual_calls as spec_usual_calls, window_of as spec_window_of};
 ghost use Rattle.snap_core.specs.Counting.{inner_of};
@@ -9,25 +9,13 @@ use crate::files::open_only;
 use crate::outlet::Outlet;
 use snap_check::{RunFault, Status};
 use snap_core::{Counted, Limit};
-use snap_draw::{LINE_CALLS, PAGE_CALLS, Place as At, Scheme as Colours, Window};
+use snap_draw::{PAGE_CALLS, Place as At, Window};
+use snap_options::{LINE_CALLS, Scheme};
 use snap_runs::{Lines, Page, Svg, draw_run};
-use snap_words::{Form, JobFault, Part, Place, Scheme};
+use snap_words::{Form, JobFault, Part, Place};
 use std::alloc::{AllocError, Global};
 use std::io::{Read, Write};
 use std::thread::Threads;
-
-// The colours that are asked for, or nothing if they are left to the reader's system.
-fn colours_of(scheme: Scheme) -> Option<Colours>
-    ensures reader { scheme ≡ Scheme.Reader → result ≡ None }
-    ensures light { scheme ≡ Scheme.Light → result ≡ Some Colours.Light }
-    ensures dark { scheme ≡ Scheme.Dark → result ≡ Some Colours.Dark }
-{
-    match scheme {
-        Scheme::Reader => None,
-        Scheme::Light => Some(Colours::Light),
-        Scheme::Dark => Some(Colours::Dark),
-    }
-}
 
 // The number of calls of a part, of a form that has this many if no number is asked for.
 fn calls_of(part: Part, usual: usize) -> usize
@@ -56,7 +44,7 @@ fn usual_calls(form: Form) -> usize
 {
     match form {
         Form::Page(_) | Form::Svg(_) => PAGE_CALLS,
-        Form::Lines => LINE_CALLS,
+        Form::Lines => LINE_CALLS as usize,
     }
 }
 
@@ -84,15 +72,12 @@ fn draw_from<Rt: Threads + Sync, R: Read, W: Write>(
 {
     match form {
         Form::Page(scheme) => {
-            let page = Page {
-                scheme: colours_of(scheme),
-                window,
-            };
+            let page = Page { scheme, window };
             draw_run(rt, alloc, &page, reader, writer, limit)
         }
         Form::Svg(scheme) => {
             let svg = Svg {
-                scheme: colours_of(scheme).unwrap_or(Colours::Light),
+                scheme: scheme.unwrap_or(Scheme::Light),
                 window,
             };
             draw_run(rt, alloc, &svg, reader, writer, limit)

@@ -3,10 +3,11 @@ use Rattle.std.specs.Prelude.{ℕ, ◌-◌, ◌/◌, min, Bool, true, false, ◌
 use Rattle.std.specs.List.{list_any}
 use Rattle.snap_draw.specs.declared.drawn.Drawn.{Drawn}
 use Rattle.snap_draw.specs.declared.marks.Mark.{Mark}
-use Rattle.snap_draw.specs.declared.window.TheConstants.{LINE_CALLS, PAGE_CALLS}
+use Rattle.snap_draw.specs.declared.window.TheConstants.{PAGE_CALLS}
 use Rattle.snap_draw.specs.declared.window.Place.{Place}
 use Rattle.snap_draw.specs.declared.window.Place.TheVariants.{Faults, From, Around}
 use Rattle.snap_draw.specs.declared.window.Window.{Window}
+use Rattle.snap_options.specs.declared.limits.TheConstants.{LINE_CALLS}
 
 abbrev pub is_marked : List Mark → ℕ → Bool
 is_marked marks number = list_any (λ (m : Mark). m.call == number) marks

@@ -4,7 +4,7 @@ use crate::layout::{Line, Span, character_of, lines_of, span_of};
 use crate::marks::is_marked;
 use crate::picture::{Picture, front_of, is_sentence, verdict_of};
 use crate::shapes::{Bar, Shapes};
-use crate::words::{label_of, place_at, put_cut, put_title, record_at};
+use crate::words::{label_of, place_at, put_cut, put_source, put_title, record_at};
 use snap_index::CallOp;
 use snap_report::put_number;
 use std::alloc::{AllocError, Global};
@@ -72,7 +72,7 @@ fn put_records(out: &mut Vec<u8>, picture: &Picture<'_, '_>) -> Result<(), Alloc
         let from = character_of(step_of(shapes.columns), column);
         if let Some(place) = place_at(&shapes.bars, column) {
             if end == 0 || end < from {
-                end = put_record(out, record_at(picture.records, place), from, end)?;
+                end = put_record(out, record_at(picture.numbering.records, place), from, end)?;
             }
         }
     }
@@ -167,18 +167,26 @@ fn put_bars(
     out.extend_from_slice(b"\n")
 }
 
-// What is below a bar: the kinds of the first faults that it is of, or its place in the printed order.
+// What is below a bar: the kinds of the first faults that it is of, or its place in the printed order, and its number in the run.
 fn note_of(alloc: Global, picture: &Picture<'_, '_>, span: &Span) -> Result<Vec<u8>, AllocError> {
     let mut note = Vec::new(alloc);
-    put_kinds(
-        &mut note,
-        &picture.shapes.marks,
-        span.bar.drawn.number,
-        b" ",
-    )?;
+    let number = span.bar.drawn.number;
+    put_kinds(&mut note, &picture.shapes.marks, number, b" ")?;
     if let Some(place) = span.bar.place {
         put_number(&mut note, b" #", (place as u64).saturating_add(1))?;
     }
+    let before: &[u8] = if note.is_empty() {
+        b" call "
+    } else {
+        b", call "
+    };
+    put_source(
+        &mut note,
+        before,
+        &picture.numbering,
+        number,
+        b" of the run",
+    )?;
     Ok(note)
 }
 
@@ -252,7 +260,7 @@ fn put_cut_call(
     bar: &Bar,
 ) -> Result<(), AllocError> {
     out.extend_from_slice(before)?;
-    put_title(out, picture.index, picture.records, bar)?;
+    put_title(out, picture, bar)?;
     out.extend_from_slice(b"\n")
 }
 

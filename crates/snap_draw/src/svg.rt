@@ -7,30 +7,29 @@ use crate::shapes::Shapes;
 use crate::words::{place_at, record_at, short_label};
 use backs::put_backs;
 use calls::{next_of, put_calls};
+use colours::{put_coloured, put_colours};
 use held::{put_extent, put_piece, put_reasons, put_steps};
 use look::{GROUND, WHOLE};
-use page::{HEAD, MOVES, STYLE, TAIL, put_colours};
+use page::{HEAD, MOVES, STYLE, TAIL};
 use parts::{put_escaped, put_parts};
 use points::{points_of, put_line, put_places};
 use scale::{LANE, MARGIN, TOP, WIDE, across, right_of, scaled, x_of, y_of};
-use scheme::put_coloured;
 use script::SCRIPT;
+use snap_options::Scheme;
 use std::alloc::{AllocError, Global};
 use strip::put_strip;
 
 mod backs;
 mod calls;
+mod colours;
 mod held;
 mod look;
 mod page;
 mod parts;
 mod points;
 mod scale;
-mod scheme;
 mod script;
 mod strip;
-
-pub use scheme::Scheme;
 
 // The last labels make a picture wider than its columns by at most this much.
 const LABEL_ROOM: usize = 240;
@@ -118,7 +117,7 @@ fn put_head(out: &mut Vec<u8>, picture: &Picture<'_, '_>, width: usize) -> Resul
 
 // Adds the number of the record of each event above its column.
 fn put_records(out: &mut Vec<u8>, shapes: &Shapes, records: &[u32]) -> Result<(), AllocError> {
-    out.extend_from_slice(b"<g data-id=\"records\" fill=\"#59636e\" text-anchor=\"middle\">")?;
+    out.extend_from_slice(b"<g data-id=\"records\" fill=\"--quiet\" text-anchor=\"middle\">")?;
     for column in 0..shapes.columns {
         if let Some(place) = place_at(&shapes.bars, column) {
             let record = record_at(records, place);
@@ -147,7 +146,7 @@ fn put_lanes(out: &mut Vec<u8>, shapes: &Shapes) -> Result<(), AllocError> {
                 (b"</text><path class=\"line\" d=\"M 64 ", y_of(lane, 27)),
                 (b" H ", right_of(shapes.columns)),
             ],
-            b"\" fill=\"none\" stroke=\"#c3c9d0\"/></g>\n",
+            b"\" fill=\"none\" stroke=\"--faint\"/></g>\n",
         )?;
     }
     Ok(())
@@ -157,7 +156,7 @@ fn put_lanes(out: &mut Vec<u8>, shapes: &Shapes) -> Result<(), AllocError> {
 fn put_mark(out: &mut Vec<u8>, line: &[u8], y: u64) -> Result<(), AllocError> {
     out.extend_from_slice(b"<g class=\"mark\" data-id=\"fault-")?;
     put_escaped(out, front_of(line))?;
-    out.extend_from_slice(b"\" fill=\"#b3261e\" font-weight=\"bold\"><title>")?;
+    out.extend_from_slice(b"\" fill=\"--fault\" font-weight=\"bold\"><title>")?;
     put_escaped(out, line)?;
     put_parts(out, &[(b"</title><text x=\"8\" y=\"", y)], b"\">")?;
     put_escaped(out, line)?;
@@ -183,8 +182,13 @@ fn put_ground(
     width: usize,
 ) -> Result<(), AllocError> {
     put_head(out, picture, width)?;
-    put_strip(out, picture.shapes, picture.index, picture.records)?;
-    put_records(out, picture.shapes, picture.records)?;
+    put_strip(
+        out,
+        picture.shapes,
+        picture.index,
+        picture.numbering.records,
+    )?;
+    put_records(out, picture.shapes, picture.numbering.records)?;
     put_lanes(out, picture.shapes)
 }
 
@@ -203,8 +207,8 @@ fn put_run(
     put_places(out, &points)
 }
 
-// A light picture up to its end.
-fn light_of(alloc: Global, picture: &Picture<'_, '_>) -> Result<Vec<u8>, AllocError> {
+// A picture up to its end, with its colours by name.
+fn uncoloured(alloc: Global, picture: &Picture<'_, '_>) -> Result<Vec<u8>, AllocError> {
     let mut out = Vec::new(alloc);
     let width = width_of(alloc, picture)?;
     put_ground(&mut out, picture, width)?;
@@ -220,8 +224,8 @@ fn put_svg(
 ) -> Result<(), AllocError>
     ensures { OnOk result (EndsSvg out.new.items) }
 {
-    let light = light_of(alloc, picture)?;
-    put_coloured(out, &light, scheme)?;
+    let named = uncoloured(alloc, picture)?;
+    put_coloured(out, &named, scheme)?;
     out.extend_from_slice(b"</svg>\n")
 }
 
@@ -249,7 +253,7 @@ fn put_pieces(
             shapes,
             parts: &[],
             index: picture.index,
-            records: picture.records,
+            numbering: picture.numbering,
             order: picture.order,
             said: picture.said,
         };

@@ -4,16 +4,11 @@ ghost use Rattle.snap_draw.specs.Window.{calls_from as spec_calls_from, drawn_in
 
 use crate::drawn::Drawn;
 use crate::marks::{Mark, is_marked};
+use snap_options::LINE_CALLS;
 use std::alloc::{AllocError, Global};
 
 /// The number of calls that are drawn on a page or as SVG if no other is asked for.
 pub const PAGE_CALLS: usize = 60;
-
-/// The greatest number of calls that can be asked for on a page or as SVG, and the most that a page holds.
-pub const MOST_CALLS: usize = 2000;
-
-/// The greatest number of calls that are drawn by lines of characters.
-pub const LINE_CALLS: usize = 12;
 
 /// Which calls are drawn of a history that has more calls than a window. Calls are counted from 0.
 #[derive(Clone, Copy, PartialEq, Eq, Debug)]
@@ -49,7 +44,7 @@ impl Window {
         ensures { result ≡ spec_usual_lines }
     {
         Window {
-            calls: LINE_CALLS,
+            calls: LINE_CALLS as usize,
             place: Place::Faults,
         }
     }

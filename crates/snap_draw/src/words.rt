@@ -1,6 +1,6 @@
 //! What is said of a call that is drawn.
 use crate::marks::is_marked;
-use crate::picture::Picture;
+use crate::picture::{Numbering, Picture};
 use crate::shapes::Bar;
 use snap_index::{Call, CallOp, Index};
 use snap_report::{put_call, put_entry, put_number};
@@ -54,17 +54,36 @@ fn put_records(out: &mut Vec<u8>, records: &[u32], call: &Call) -> Result<(), Al
     }
 }
 
-/// Adds a call in full, as an explanation does.
+/// Adds the number of a call in the run, if there is one, between two texts.
+pub(crate) fn put_source(
+    out: &mut Vec<u8>,
+    before: &[u8],
+    numbering: &Numbering<'_>,
+    number: u32,
+    after: &[u8],
+) -> Result<(), AllocError> {
+    match numbering.source(number) {
+        Some(source) => {
+            put_call(out, before, source)?;
+            out.extend_from_slice(after)
+        }
+        None => Ok(()),
+    }
+}
+
+/// Adds a call in full, as an explanation does, with its number in the run.
 pub(crate) fn put_title(
     out: &mut Vec<u8>,
-    index: &Index<'_>,
-    records: &[u32],
+    picture: &Picture<'_, '_>,
     bar: &Bar,
 ) -> Result<(), AllocError> {
-    put_call(out, b"call ", bar.drawn.number)?;
+    let numbering = &picture.numbering;
+    let number = bar.drawn.number;
+    put_call(out, b"call ", number)?;
+    put_source(out, b" (call ", numbering, number, b" of the run)")?;
     put_number(out, b" of process ", u64::from(bar.drawn.call.process))?;
-    put_records(out, records, &bar.drawn.call)?;
-    put_operation(out, index, bar)
+    put_records(out, numbering.records, &bar.drawn.call)?;
+    put_operation(out, picture.index, bar)
 }
 
 /// Adds text, cut if it has more characters than the room.

@@ -1,6 +1,7 @@
 //! The jobs that words ask for, and the files that they name.
 use snap_core::Limit;
-use snap_words::{Form, Job, Scheme, Shrunk, job_of};
+use snap_options::Scheme;
+use snap_words::{Form, Job, Shrunk, job_of};
 use std::alloc::{AllocError, Global};
 use std::test::Fail;
 
@@ -105,13 +106,13 @@ const LINES_WITH_FILES: &[(&str, &[&str])] = &[
 ];
 
 // The colours that the flags of a line name.
-fn scheme_named(line: &str) -> Scheme {
+fn scheme_named(line: &str) -> Option<Scheme> {
     if line.contains(" --light") {
-        Scheme::Light
+        Some(Scheme::Light)
     } else if line.contains(" --dark") {
-        Scheme::Dark
+        Some(Scheme::Dark)
     } else {
-        Scheme::Reader
+        None
     }
 }
 

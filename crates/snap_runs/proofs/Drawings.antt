@@ -30,11 +30,11 @@ order_is calls t (Some numbers) given printed = printed numbers refl ∙ ap (λ 
 abbrev whole : List Event → Tally
 whole es = tally_of (calls_of es) (views_of (calls_of es))
 
-pub drawing : {E : Type 0} (window given : Window) (most kept : ℕ) (listed : Entries) (Is : Writes) (es : List Event) (records : List ℕ) (t : Tally) (order : List ℕ) (shapes : Shapes) (parts made : List Shapes) (said : List ℕ) (result : Result (Vec ℕ) E) → given ≡ window → kept ≡ most → t ≡ whole es → order ≡ order_drawn (calls_of es) t →
+pub drawing : {E : Type 0} (window given : Window) (most kept : ℕ) (listed : Entries) (Is : Writes) (es : List Event) (records sources : List ℕ) (t : Tally) (order : List ℕ) (shapes : Shapes) (parts made : List Shapes) (said : List ℕ) (result : Result (Vec ℕ) E) → given ≡ window → kept ≡ most → t ≡ whole es → order ≡ order_drawn (calls_of es) t →
     AreShapes order (marks_of (calls_of es) t) (calls_drawn given (calls_of es) t) shapes → parts ≡ made →
     AreEach order (marks_of (calls_of es) t) (pieces_of given.calls (held_calls kept given (marks_of (calls_of es) t) (map drawn_call (calls_of es)))) made →
-    IsExplanation listed records (calls_of es) said → IfOk result (λ out. Is es records shapes parts order said out.items) → IfOk result (λ out. IsDrawing window most listed Is es records out.items)
-drawing window given most kept listed Is es records t order shapes parts made said result same held tally printed are passed each explained written =
+    IsExplanation listed records (calls_of es) said → IfOk result (λ out. Is es records sources shapes parts order said out.items) → IfOk result (λ out. IsDrawing window most listed Is es records sources out.items)
+drawing window given most kept listed Is es records sources t order shapes parts made said result same held tally printed are passed each explained written =
     let order_are : order ≡ order_drawn (calls_of es) (whole es) = printed ∙ ap (order_drawn (calls_of es)) tally in
     let shapes_are : AreShapesOf window (calls_of es) (whole es) shapes =
     subst (λ os. AreShapes os (marks_of (calls_of es) (whole es)) (calls_drawn window (calls_of es) (whole es)) shapes) order_are
@@ -54,7 +54,7 @@ drawing window given most kept listed Is es records t order shapes parts made sa
       are_shapes = shapes_are;
       are_parts = parts_are;
       explained = explained;
-      written = subst (λ os. Is es records shapes parts os said out.items) order_are w;
+      written = subst (λ os. Is es records sources shapes parts os said out.items) order_are w;
     }) written
 
 pub drawn_text : (most : ℕ) (window : Window) (held : ℕ) (listed : Entries) (Is : Writes) (text : List ℕ) (es : List Event) (records given : List ℕ) (answer : Option Status) (out : List ℕ) → HaveRecords most text es records → given ≡ records → AnswersHistory window held listed Is es given answer out → IsDrawnText most window held listed Is text answer out

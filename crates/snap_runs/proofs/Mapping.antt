@@ -19,7 +19,8 @@ use Rattle.snap_witness.proofs.KeptCalls.{calls_are_kept, same_count}
 use Rattle.snap_witness.proofs.Numbers.{kept_numbered, kept_within}
 use Rattle.snap_format.specs.Records.{HaveRecords}
 use Rattle.snap_verdict.specs.declared.status.Status.{Status}
-use Rattle.snap_runs.specs.Mapping.{AreSources, IsMapped, MapsHistory}
+use Rattle.snap_runs.specs.Mapping.{AreOfFault, AreSources, IsMapped, MapsHistory}
+use Rattle.snap_runs.specs.WitnessDrawing.{AreOfWitness}
 
 -- the witness of the first fault, and the numbers of the calls that it keeps
 pub record IsKept (es : List Event) (numbers : List ℕ) (left : List Event) : Type 0 where
@@ -36,15 +37,22 @@ is_kept es numbers answer left is kept first =
     let same : Some left.events ≡ Some (fault_witness es m.from) = sym (ap (option_map (λ (h : LimitedEvents). h.events)) is) ∙ first ∙ ap (option_map (fault_witness es)) m.is in
     record { fault = m.from; first = m.is; there = (first_is (calls_of es) m.from m.is).fault; numbers_are = m.to; left_is = cc }
 
-pub kept_sources : (es : List Event) (numbers : List ℕ) (left : List Event) → IsBoundedHistory es → IsKept es numbers left → AreSources es left (map (call_numbered (calls_of es)) numbers)
-kept_sources es numbers left h k =
-    let sources : map (call_numbered (calls_of es)) numbers ≡ calls_kept es k.fault = ap (map (call_numbered (calls_of es))) (sym k.numbers_are) ∙ kept_numbered es k.fault in
-    inr (record {
+-- the calls that a witness keeps are those that it is made from
+kept_of_fault : (es : List Event) (numbers : List ℕ) (left : List Event) (sources : List Call) → IsBoundedHistory es → (k : IsKept es numbers left) → sources ≡ calls_kept es k.fault → AreOfFault es left sources
+kept_of_fault es numbers left sources h k same =
+    record {
       fault = k.fault;
       first = k.first;
-      kept = sources;
-      same = ap calls_of k.left_is ∙ calls_are_kept es h k.fault k.there ∙ ap (as_kept (is_place_of (fault_calls es k.fault)) (numbers_of (fault_updates k.fault)) 0) (sym sources);
-    })
+      kept = same;
+      same = ap calls_of k.left_is ∙ calls_are_kept es h k.fault k.there ∙ ap (as_kept (is_place_of (fault_calls es k.fault)) (numbers_of (fault_updates k.fault)) 0) (sym same);
+    }
+
+pub kept_sources : (es : List Event) (numbers : List ℕ) (left : List Event) → IsBoundedHistory es → IsKept es numbers left → AreSources es left (map (call_numbered (calls_of es)) numbers)
+kept_sources es numbers left h k =
+    inr (kept_of_fault es numbers left _ h k (ap (map (call_numbered (calls_of es))) (sym k.numbers_are) ∙ kept_numbered es k.fault))
+
+pub kept_beside : (es : List Event) (numbers : List ℕ) (left : List Event) → IsBoundedHistory es → IsKept es numbers left → AreOfWitness es left numbers
+kept_beside es numbers left h k = record { sources = calls_kept es k.fault; of_fault = kept_of_fault es numbers left _ h k refl; are = sym k.numbers_are }
 
 pub kept_count : (es : List Event) (numbers : List ℕ) (left : List Event) → IsBoundedHistory es → IsKept es numbers left → length numbers ≡ length (calls_of left)
 kept_count es numbers left h k = ap length (sym k.numbers_are) ∙ same_count es h k.fault k.there ∙ ap (λ z. length (calls_of z)) (sym k.left_is)

@@ -21,10 +21,10 @@ use Rattle.snap_verdict.specs.declared.status.Status.{Status}
 use Rattle.snap_verdict.specs.declared.status.Status.TheVariants.{Refused}
 use Rattle.snap_verdict.specs.Verdicts.{HasStatus}
 
--- what a markup may write of the events of a history, their records, its shapes, those of its pieces, the numbers of its printed order,
--- and its explanation
+-- what a markup may write of the events of a history, their records, the numbers of its calls in a run that it is made from, its shapes,
+-- those of its pieces, the numbers of its printed order, and its explanation
 abbrev pub Writes : Type 1
-Writes = List Event → List ℕ → Shapes → List Shapes → List ℕ → List ℕ → List ℕ → Type 0
+Writes = List Event → List ℕ → List ℕ → Shapes → List Shapes → List ℕ → List ℕ → List ℕ → Type 0
 
 -- the numbers of the printed order, by the tally of all completed views, and none if that has a fault
 abbrev pub order_drawn : List Call → Tally → List ℕ
@@ -40,24 +40,26 @@ abbrev pub ArePartsOf : ℕ → Window → List Call → Tally → List Shapes �
 ArePartsOf held window calls t =
     AreEach (order_drawn calls t) (marks_of calls t) (pieces_of window.calls (held_calls held window (marks_of calls t) (map drawn_call calls)))
 
--- the text is what the markup writes of the shapes of the history, its pieces, its order and its explanation, which lists these entries
-pub record IsDrawing (window : Window) (held : ℕ) (listed : Entries) (Is : Writes) (events : List Event) (records out : List ℕ) : Type 0 where
+-- the text is what the markup writes of the shapes of the history, its pieces, its order and its explanation, which lists these entries.
+-- The records are those of its events, and the sources the numbers of its calls in a run that it is made from
+pub record IsDrawing (window : Window) (held : ℕ) (listed : Entries) (Is : Writes) (events : List Event) (records sources out : List ℕ) : Type 0 where
   pub shapes : Shapes
   pub parts : List Shapes
   pub said : List ℕ
   pub are_shapes : AreShapesOf window (calls_of events) (tally_of (calls_of events) (views_of (calls_of events))) shapes
   pub are_parts : ArePartsOf held window (calls_of events) (tally_of (calls_of events) (views_of (calls_of events))) parts
   pub explained : IsExplanation listed records (calls_of events) said
-  pub written : Is events records shapes parts (order_drawn (calls_of events) (tally_of (calls_of events) (views_of (calls_of events)))) said out
+  pub written : Is events records sources shapes parts (order_drawn (calls_of events) (tally_of (calls_of events) (views_of (calls_of events)))) said out
 
--- the status of a history, and its picture by the records of its events
-abbrev pub DrawsHistory : Window → ℕ → Entries → Writes → List Event → List ℕ → Status → List ℕ → Type 0
-DrawsHistory window held listed Is events records status out = HasStatus events status × IsDrawing window held listed Is events records out
+-- the status of a history, and its picture by the records of its events and the numbers of its calls in a run
+abbrev pub DrawsHistory : Window → ℕ → Entries → Writes → List Event → List ℕ → List ℕ → Status → List ℕ → Type 0
+DrawsHistory window held listed Is events records sources status out = HasStatus events status × IsDrawing window held listed Is events records sources out
 
--- the answer to a history with the call that the window names, and its picture; without that call there is no status and no picture
+-- The answer to a history with the call that the window names, and its picture. Without that call there is no status and no picture. The
+-- history is made from no run.
 abbrev pub AnswersHistory : Window → ℕ → Entries → Writes → List Event → List ℕ → Option Status → List ℕ → Type 0
 AnswersHistory window held listed Is events records (Some status) out =
-    (has_call window.place (length (calls_of events)) ≡ true) × DrawsHistory window held listed Is events records status out
+    (has_call window.place (length (calls_of events)) ≡ true) × DrawsHistory window held listed Is events records [] status out
 AnswersHistory window held listed Is events records None out = (has_call window.place (length (calls_of events)) ≡ false) × (out ≡ [])
 
 -- the answer to a text that is a history, if a history may have up to most events

@@ -1,7 +1,9 @@
 -- What is written if the picture of a witness is drawn.
-use Rattle.std.specs.Prelude.{◌⊎◌, ℕ, List, length}
+use Rattle.std.specs.Prelude.{◌≡◌, ◌⊎◌, ℕ, List, [], length, map}
 use Rattle.std.specs.List.{range_with_len}
 use Rattle.snap_core.specs.declared.event.Event.{Event}
+use Rattle.snap_core.specs.Calls.{Call, calls_of}
+use Rattle.snap_core.specs.Orders.{IsAtomic}
 use Rattle.snap_format.specs.Texts.{IsText}
 use Rattle.snap_draw.specs.declared.window.Window.{Window}
 use Rattle.snap_explain.specs.declared.view.Entries.{Entries}
@@ -9,15 +11,28 @@ use Rattle.snap_runs.specs.Shrinking.{IsCutTo}
 use Rattle.snap_verdict.specs.declared.status.Status.{Status}
 use Rattle.snap_verdict.specs.Reports.{IsRefused}
 use Rattle.snap_runs.specs.Drawing.{IsDrawing, Writes}
+use Rattle.snap_runs.specs.Mapping.{AreOfFault}
 
--- the picture of what a history is cut down to: its witness, or itself if it is atomic. The records are those of the text of that. The
--- history may have up to most events
+-- the numbers of the calls of a history that those of its witness are made from, as the table of `shrink --map` has them
+pub record AreOfWitness (events left : List Event) (numbers : List ℕ) : Type 0 where
+  pub sources : List Call
+  pub of_fault : AreOfFault events left sources
+  pub are : numbers ≡ map (λ (c : Call). c.number) sources
+
+-- the numbers that stand beside those of the calls that are left. An atomic history is left whole, so there are none
+abbrev pub AreBeside : List Event → List Event → List ℕ → Type 0
+AreBeside events left numbers = (IsAtomic (calls_of events) × (numbers ≡ [])) ⊎ AreOfWitness events left numbers
+
+-- the picture of what a history is cut down to: its witness, or itself if it is atomic. The records are those of the text of that, and
+-- beside the numbers of its calls stand those in the history. The history may have up to most events
 pub record IsCutDrawn (most : ℕ) (window : Window) (held : ℕ) (listed : Entries) (Is : Writes) (text : List ℕ) (status : Status) (out : List ℕ) : Type 0 where
   pub events : List Event
   pub left : List Event
   pub history : IsText most text events
   pub cut : IsCutTo events status left
-  pub drawn : IsDrawing window held listed Is left (range_with_len 2 (length left)) out
+  pub numbers : List ℕ
+  pub beside : AreBeside events left numbers
+  pub drawn : IsDrawing window held listed Is left (range_with_len 2 (length left)) numbers out
 
 -- the status of the history, and what is written. A text with a fault is refused by the line of its report
 abbrev pub IsWitnessDrawn : ℕ → Window → ℕ → Entries → Writes → List ℕ → Status → List ℕ → Type 0

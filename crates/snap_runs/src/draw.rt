@@ -15,7 +15,7 @@ use snap_check::{Judging, RunFault, Workers, workers_of};
 use snap_conditions::Tally;
 use snap_core::{Counted, History, Limit};
 use snap_csv::{ReadRefusal, read_records};
-use snap_draw::{Picture, has_call, parts_of, shapes_of};
+use snap_draw::{Numbering, Picture, has_call, parts_of, shapes_of};
 use snap_explain::{explain, explain_refusal};
 use snap_index::Index;
 use snap_threads::Cutting;
@@ -34,22 +34,23 @@ fn numbers_of<'x>(order: Option<&'x [u32]>) -> &'x [u32]
     }
 }
 
-// The picture of a history by its index, the tally of all its completed views, the records of its events, and its printed order. The
-// numbers of that order are given exactly if the tally has no fault.
+// The picture of a history by its index, the tally of all its completed views, its numbering, and its printed order. The numbers of that
+// order are given exactly if the tally has no fault.
 fn picture_of<'x, M: Markup>(
     alloc: Global,
     markup: &M,
     index: &'x Index<'_>,
     tally: &Tally,
-    records: &'x [u32],
+    numbering: Numbering<'x>,
     order: Option<&'x [u32]>,
 ) -> Result<Vec<u8>, AllocError>
     requires tally { tally.now ≡ tally_of (calls_of index.now) (views_of (calls_of index.now)) }
-    requires each { length records.now ≡ length index.now }
+    requires each { length numbering.records.now ≡ length index.now }
     requires given { is_some order ≡ has_no_fault tally.now }
     requires order { ForSome order (λ numbers. numbers.now ≡ map (λ c. c.number) (printed_order (calls_of index.now))) }
-    ensures { IfOk result (λ text. IsDrawing (M.draws markup.now) M.holds (M.entries markup.now) M.writes index.now records.now text.items) }
+    ensures { IfOk result (λ text. IsDrawing (M.draws markup.now) M.holds (M.entries markup.now) M.writes index.now numbering.entry.records.now numbering.entry.sources.now text.items) }
 {
+    let records = numbering.records;
     let said = explain(alloc, index, tally, records, order, markup.listed())?;
     let order = numbers_of(order);
     let window = markup.part();
@@ -61,7 +62,7 @@ fn picture_of<'x, M: Markup>(
             shapes: &shapes,
             parts: &parts,
             index,
-            records,
+            numbering,
             order,
             said: &said,
         },
@@ -73,40 +74,40 @@ pub(crate) fn workers<Rt: Threads + Sync>(rt: &Rt) -> Workers<'_, Rt> {
     workers_of(rt, Cutting::new(8, 4).unwrap_or(Cutting::usual()))
 }
 
-// The status of a history, and its picture by its index and the records of its events.
+// The status of a history, and its picture by its index and its numbering.
 fn drawn_by<J: Judging, M: Markup>(
     judging: &J,
     alloc: Global,
     markup: &M,
     index: &Index<'_>,
-    records: &[u32],
+    numbering: Numbering<'_>,
     bytes: usize,
 ) -> Result<(Status, Vec<u8>), AllocError>
     requires ready { J.ready }
-    requires each { length records.now ≡ length index.now }
-    ensures { IfOk result (λ answer. DrawsHistory (M.draws markup.now) M.holds (M.entries markup.now) M.writes index.now records.now answer.0 answer.1.items) }
+    requires each { length numbering.records.now ≡ length index.now }
+    ensures { IfOk result (λ answer. DrawsHistory (M.draws markup.now) M.holds (M.entries markup.now) M.writes index.now numbering.entry.records.now numbering.entry.sources.now answer.0 answer.1.items) }
 {
     let (tally, chain) = judging.tally_and_chain(alloc, index, bytes)?;
     let order = judging.order(alloc, index, &tally, chain, bytes)?;
-    let text = picture_of(alloc, markup, &*index, &tally, records, order.as_deref())?;
+    let text = picture_of(alloc, markup, &*index, &tally, numbering, order.as_deref())?;
     Ok((status_of(index, &tally), text))
 }
 
-/// The status of the history of a text with this number of bytes, and its picture by the records of its events.
+/// The status of the history of a text with this number of bytes, and its picture by its numbering.
 pub(crate) fn drawn<J: Judging, M: Markup>(
     judging: &J,
     alloc: Global,
     markup: &M,
     history: &History,
-    records: &[u32],
+    numbering: Numbering<'_>,
     bytes: usize,
 ) -> Result<(Status, Vec<u8>), AllocError>
     requires ready { J.ready }
-    requires each { length records.now ≡ length history.now.events }
-    ensures { IfOk result (λ answer. DrawsHistory (M.draws markup.now) M.holds (M.entries markup.now) M.writes history.now.events records.now answer.0 answer.1.items) }
+    requires each { length numbering.records.now ≡ length history.now.events }
+    ensures { IfOk result (λ answer. DrawsHistory (M.draws markup.now) M.holds (M.entries markup.now) M.writes history.now.events numbering.entry.records.now numbering.entry.sources.now answer.0 answer.1.items) }
 {
     let index = Index::build(alloc, history)?;
-    drawn_by(judging, alloc, markup, &index, records, bytes)
+    drawn_by(judging, alloc, markup, &index, numbering, bytes)
 }
 
 // The answer to a history and its picture, or nothing if it lacks the call that the window names.
@@ -127,7 +128,11 @@ fn answered<J: Judging, M: Markup>(
     if !has_call(markup.part().place, index.call_count()) {
         return Ok((None, Vec::new(alloc)));
     }
-    let (status, text) = drawn_by(judging, alloc, markup, &index, records, bytes)?;
+    let numbering = Numbering {
+        records,
+        sources: &[],
+    };
+    let (status, text) = drawn_by(judging, alloc, markup, &index, numbering, bytes)?;
     Ok((Some(status), text))
 }
 

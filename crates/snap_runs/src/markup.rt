@@ -2,17 +2,16 @@
 ghost use Rattle.std.specs.Prelude.{◌≡◌, ℕ, List, IfOk};
 ghost use Rattle.snap_core.specs.declared.event.Event.{Event};
 ghost use Rattle.snap_draw.specs.declared.shapes.Shapes.{Shapes};
-ghost use Rattle.snap_draw.specs.declared.window.TheConstants.{MOST_CALLS};
 ghost use Rattle.snap_draw.specs.declared.window.Window.{Window};
 ghost use Rattle.snap_draw.specs.Window.{usual_lines};
+ghost use Rattle.snap_options.specs.declared.limits.TheConstants.{MOST_CALLS};
 ghost use Rattle.snap_explain.specs.declared.view.Entries.{Entries};
 ghost use Rattle.snap_explain.specs.declared.view.Entries.TheVariants.{OfFault};
 ghost use Rattle.snap_runs.specs.Markups.{is_lines, is_page, is_svg};
 
-use snap_draw::{
-    MOST_CALLS, Picture, Scheme, Window, explained_lines, page_of, svg_of, text_lines,
-};
+use snap_draw::{Picture, Window, explained_lines, page_of, svg_of, text_lines};
 use snap_explain::Entries;
+use snap_options::{MOST_CALLS, Scheme};
 use std::alloc::{AllocError, Global};
 
 /// A way to write a picture as text.
@@ -26,9 +25,9 @@ pub trait Markup {
     // which entries of the views of a fault its explanation lists
     ghost entries: { Self → Entries };
 
-    // what it may write of the events of a history, their records, its shapes, those of its pieces, the numbers of its printed
-    // order, and its explanation
-    ghost writes: { List Event → List ℕ → Shapes → List Shapes → List ℕ → List ℕ → List ℕ → Type 0 };
+    // what it may write of the events of a history, their records, the numbers of its calls in a run, its shapes, those of its pieces,
+    // the numbers of its printed order, and its explanation
+    ghost writes: { List Event → List ℕ → List ℕ → Shapes → List Shapes → List ℕ → List ℕ → List ℕ → Type 0 };
 
     /// Which calls of a history are drawn.
     fn part(&self) -> Window
@@ -44,7 +43,7 @@ pub trait Markup {
 
     /// The text of a picture. The error is want of memory.
     fn text(&self, alloc: Global, picture: &Picture<'_, '_>) -> Result<Vec<u8>, AllocError>
-        ensures { IfOk result (λ text. writes picture.now.index.now picture.now.records.now picture.now.shapes.now picture.now.parts.now picture.now.order.now picture.now.said.now text.items) };
+        ensures { IfOk result (λ text. writes picture.now.index.now picture.now.numbering.records.now picture.now.numbering.sources.now picture.now.shapes.now picture.now.parts.now picture.now.order.now picture.now.said.now text.items) };
 }
 
 /// SVG alone, of a window, in the colours of a scheme.
@@ -116,7 +115,7 @@ impl Markup for Page {
     }
 
     fn held(&self) -> usize {
-        MOST_CALLS
+        MOST_CALLS as usize
     }
 
     fn listed(&self) -> Entries {

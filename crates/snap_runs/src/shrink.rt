@@ -31,9 +31,9 @@ fn first_witness<J: Judging>(
     Ok((status_of(&index, &tally), witness(alloc, &index, &tally)?))
 }
 
-/// The status of the history of a text with this number of bytes, and what it is cut down to. That is the witness of its first fault,
-/// or the history itself if it has none.
-pub(crate) fn cut<J: Judging>(
+// The status of the history of a text with this number of bytes, and what it is cut down to. That is the witness of its first fault, or
+// the history itself if it has none.
+fn cut<J: Judging>(
     judging: &J,
     alloc: Global,
     history: History,

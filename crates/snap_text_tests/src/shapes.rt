@@ -1,5 +1,5 @@
 //! The shapes that are drawn for worked histories, against shapes worked out by hand.
-use snap_draw::{Bar, Kind, LINE_CALLS, Mark, Place, Shapes, Window, shapes_of};
+use snap_draw::{Bar, Kind, Mark, Place, Shapes, Window, shapes_of};
 use snap_index::Index;
 use snap_tally::tally_and_chain_alone;
 use snap_testing::worked::{ATOMIC_RUN, MISSED_UPDATE, NEW_THEN_OLD, NOTHING, SEEN_PENDING};
@@ -22,10 +22,10 @@ type Known = (
 
 // Histories, the number of calls that are drawn of each, and their shapes.
 const WORKED: &[(&[Step<'static>], usize, Known)] = &[
-    (NOTHING, LINE_CALLS, (&[], &[], 0, &[])),
+    (NOTHING, 12, (&[], &[], 0, &[])),
     (
         NEW_THEN_OLD,
-        LINE_CALLS,
+        12,
         (
             &[0, 1, 2],
             &[
@@ -53,7 +53,7 @@ const WORKED: &[(&[Step<'static>], usize, Known)] = &[
     ),
     (
         SEEN_PENDING,
-        LINE_CALLS,
+        12,
         (
             &[0, 1, 2],
             &[

@@ -7,8 +7,8 @@ use Rattle.snap_core.specs.Events.{event_cap}
 use Rattle.snap_record.specs.Plans.{worker_limit}
 use Rattle.snap_record.specs.declared.plan.TheConstants.{LEAST_WORKERS}
 use Rattle.snap_threads.specs.declared.cutting.TheConstants.{PIECE_LIMIT, WORKER_LIMIT}
-use Rattle.snap_words.specs.declared.drawing.TheConstants.{MOST_CALLS}
-use Rattle.snap_words.specs.declared.word.TheConstants.{FAULT_LIMIT, NUMBER_LIMIT}
+use Rattle.snap_options.specs.declared.limits.TheConstants.{FAULT_LIMIT, MOST_CALLS}
+use Rattle.snap_words.specs.declared.word.TheConstants.{NUMBER_LIMIT}
 use Rattle.snap_words.specs.declared.command.Kind.{Kind}
 use Rattle.snap_words.specs.declared.command.Kind.TheVariants.{Check, Draw, Explain, Record, Shrink, Stats}
 use Rattle.snap_words.specs.Tables.{with_apps, with_rules}

@@ -4,13 +4,13 @@ use Rattle.std.specs.Option.{ForSome, option_map}
 use Rattle.clap.specs.Words.{Row, one_of}
 use Rattle.snap_core.specs.Events.{event_cap}
 use Rattle.snap_core.specs.Limits.{event_limit}
+use Rattle.snap_options.specs.declared.scheme.Scheme.{Scheme}
+use Rattle.snap_options.specs.declared.scheme.Scheme.TheVariants.{Light, Dark}
 use Rattle.snap_words.specs.declared.drawing.Part.{Part}
 use Rattle.snap_words.specs.declared.drawing.Place.{Place}
 use Rattle.snap_words.specs.declared.drawing.Place.TheVariants.{Faults, From, Around}
 use Rattle.snap_words.specs.declared.drawing.Form.{Form}
 use Rattle.snap_words.specs.declared.drawing.Form.TheVariants.{Lines, Page, Svg}
-use Rattle.snap_words.specs.declared.drawing.Scheme.{Scheme}
-use Rattle.snap_words.specs.declared.drawing.Scheme.TheVariants.{Reader, Light, Dark}
 use Rattle.snap_words.specs.Jobs.{AsksLimit, flag_text}
 use Rattle.snap_words.specs.Parts.{HasRoom}
 
@@ -27,25 +27,25 @@ asks_text (Svg scheme) = false
 asks_text Lines = true
 
 -- whether colours have the flag --light
-abbrev pub asks_light : Scheme → Bool
-asks_light Reader = false
-asks_light Light = true
-asks_light Dark = false
+abbrev pub asks_light : Option Scheme → Bool
+asks_light None = false
+asks_light (Some Light) = true
+asks_light (Some Dark) = false
 
 -- whether colours have the flag --dark
-abbrev pub asks_dark : Scheme → Bool
-asks_dark Reader = false
-asks_dark Light = false
-asks_dark Dark = true
+abbrev pub asks_dark : Option Scheme → Bool
+asks_dark None = false
+asks_dark (Some Light) = false
+asks_dark (Some Dark) = true
 
--- the colours of a form; lines have none of their own
-abbrev pub scheme_of : Form → Scheme
+-- the colours of a form, if it has some of its own
+abbrev pub scheme_of : Form → Option Scheme
 scheme_of (Page scheme) = scheme
 scheme_of (Svg scheme) = scheme
-scheme_of Lines = Reader
+scheme_of Lines = None
 
 -- the flags of `draw` are those of these colours
-pub record AsksScheme (rows : List Row) (scheme : Scheme) : Type 0 where
+pub record AsksScheme (rows : List Row) (scheme : Option Scheme) : Type 0 where
   pub light_is : one_of (codes "light") rows ≡ Some (flag_text (asks_light scheme))
   pub dark_is : one_of (codes "dark") rows ≡ Some (flag_text (asks_dark scheme))
 

@@ -20,7 +20,8 @@ use Rattle.snap_words.specs.declared.format.Format.TheVariants.{Plain, Json, Jun
 use Rattle.snap_words.specs.declared.job.Options.{Options}
 use Rattle.snap_words.specs.declared.job.Windows.{Windows}
 use Rattle.snap_words.specs.declared.shrunk.Shrunk.{Shrunk}
-use Rattle.snap_words.specs.declared.word.TheConstants.{FAULT_LIMIT, NUMBER_LIMIT}
+use Rattle.snap_options.specs.declared.limits.TheConstants.{FAULT_LIMIT}
+use Rattle.snap_words.specs.declared.word.TheConstants.{NUMBER_LIMIT}
 
 -- a history of `events` events can have this many completed views, of two events each
 abbrev pub AreViews : ℕ → ℕ → Type 0

@@ -5,10 +5,10 @@ ghost use Rattle.clap.specs.declared.builder.command.Command.TheViews.{out-Comma
 ghost use Rattle.snap_words.specs.CommandLine.{draw_app};
 
 use crate::command::command_of;
-use crate::drawing::MOST_CALLS;
 use crate::word::{EVENTS, FILE, Takes, Word};
 use clap::Command;
 use snap_core::EVENT_CAP;
+use snap_options::MOST_CALLS;
 use std::alloc::{AllocError, Global};
 
 const ABOUT: &str =

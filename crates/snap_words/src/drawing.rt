@@ -1,34 +1,24 @@
 //! The forms of a picture, and the words that ask for one.
-ghost use Rattle.std.specs.Prelude.{◌≡◌, ℕ, IfSome, Some, true};
+ghost use Rattle.std.specs.Prelude.{◌≡◌, ℕ, IfSome, None, Option, Some, false, true};
 ghost use Rattle.clap.specs.Words.{found_of, rows_of};
+ghost use Rattle.snap_options.specs.declared.scheme.Scheme.{Scheme};
 ghost use Rattle.snap_words.specs.Drawing.{AsksDrawWithin, AsksPlace, AsksScheme};
 ghost use Rattle.snap_words.specs.Parts.{HasRoom, most_calls as spec_most_calls};
 ghost use Rattle.snap_words.specs.declared.drawing.Form.{Form};
 ghost use Rattle.snap_words.specs.declared.drawing.Part.{Part};
 ghost use Rattle.snap_words.specs.declared.drawing.Place.{Place};
-ghost use Rattle.snap_words.specs.declared.drawing.Scheme.{Scheme};
 
 use crate::option_values::{flag_in, number_in};
 use clap::ArgMatches;
-
-/// The colours of a picture.
-#[derive(Clone, Copy, PartialEq, Eq, Debug)]
-pub enum Scheme {
-    /// Those of the reader's system where a page shows it, and otherwise light ones.
-    Reader,
-    /// Dark ink on a light ground.
-    Light,
-    /// Light ink on a dark ground.
-    Dark,
-}
+use snap_options::{LINE_CALLS, MOST_CALLS, Scheme};
 
 /// The form of a picture.
 #[derive(Clone, Copy, PartialEq, Eq, Debug)]
 pub enum Form {
-    /// A page for a browser.
-    Page(Scheme),
-    /// SVG alone.
-    Svg(Scheme),
+    /// A page for a browser, in the colours of a scheme, or if none is given in those of the reader's system.
+    Page(Option<Scheme>),
+    /// SVG alone, which is light if no scheme is given.
+    Svg(Option<Scheme>),
     /// Lines of characters, which have no colours.
     Lines,
 }
@@ -51,19 +41,13 @@ pub struct Part {
     pub place: Place,
 }
 
-/// The most calls that a page or SVG may be asked for.
-pub const MOST_CALLS: u32 = 2000;
-
-/// The most calls that lines of characters may be asked for.
-pub const MOST_IN_LINES: u32 = 12;
-
 /// The most calls that a form may be asked for.
 pub(crate) fn most_calls(form: Form) -> u32
     ensures { result ≡ spec_most_calls form }
 {
     match form {
         Form::Page(_) | Form::Svg(_) => MOST_CALLS,
-        Form::Lines => MOST_IN_LINES,
+        Form::Lines => LINE_CALLS,
     }
 }
 
@@ -106,41 +90,44 @@ pub(crate) fn part_in(matches: &ArgMatches<'_>, form: Form) -> Option<Part>
     }
 }
 
-// The colours that the flags of `draw` ask for, or nothing if they ask for two.
-fn scheme_in(matches: &ArgMatches<'_>) -> Option<Scheme>
-    ensures { (scheme : Scheme) → AsksScheme (rows_of (found_of matches.now)) scheme → result ≡ Some scheme }
+// Whether the flags of `draw` ask for two schemes.
+fn names_two_schemes(matches: &ArgMatches<'_>) -> bool
+    ensures { (scheme : Option Scheme) → AsksScheme (rows_of (found_of matches.now)) scheme → result ≡ false }
 {
-    let light = flag_in(matches, "light");
-    let dark = flag_in(matches, "dark");
-    if light && dark {
-        None
-    } else if light {
+    flag_in(matches, "light") && flag_in(matches, "dark")
+}
+
+// The scheme that the flags of `draw` ask for, if they ask for one.
+fn scheme_in(matches: &ArgMatches<'_>) -> Option<Scheme>
+    ensures { (scheme : Option Scheme) → AsksScheme (rows_of (found_of matches.now)) scheme → result ≡ scheme }
+{
+    if flag_in(matches, "light") {
         Some(Scheme::Light)
-    } else if dark {
+    } else if flag_in(matches, "dark") {
         Some(Scheme::Dark)
     } else {
-        Some(Scheme::Reader)
+        None
     }
 }
 
 // Lines of characters, or nothing if colours are asked for.
-fn lines_in(scheme: Scheme) -> Option<Form>
-    ensures { scheme ≡ Scheme.Reader → result ≡ Some Form.Lines }
+fn lines_in(scheme: Option<Scheme>) -> Option<Form>
+    ensures { scheme ≡ None → result ≡ Some Form.Lines }
 {
     match scheme {
-        Scheme::Reader => Some(Form::Lines),
-        Scheme::Light | Scheme::Dark => None,
+        Some(_) => None,
+        None => Some(Form::Lines),
     }
 }
 
-/// The form that the flags of `draw` ask for, or nothing if they ask for two, or for lines with colours.
+/// The form that the flags of `draw` ask for. Nothing if they ask for two, for two schemes, or for lines with a scheme.
 pub(crate) fn form_in(matches: &ArgMatches<'_>) -> Option<Form>
     ensures { (events : ℕ) (form : Form) (part : Part) → AsksDrawWithin events (rows_of (found_of matches.now)) form part → result ≡ Some form }
 {
     let svg = flag_in(matches, "svg");
     let text = flag_in(matches, "text");
-    let scheme = scheme_in(matches)?;
-    if svg && text {
+    let scheme = scheme_in(matches);
+    if (svg && text) || names_two_schemes(matches) {
         None
     } else if svg {
         Some(Form::Svg(scheme))

@@ -5,8 +5,9 @@ ghost use Rattle.clap.specs.declared.builder.command.Command.TheViews.{out-Comma
 ghost use Rattle.snap_words.specs.CommandLine.{explain_app};
 
 use crate::command::command_of;
-use crate::word::{EVENTS, FAULT_LIMIT, FILE, Takes, Word};
+use crate::word::{EVENTS, FILE, Takes, Word};
 use clap::Command;
+use snap_options::FAULT_LIMIT;
 use std::alloc::{AllocError, Global};
 
 const ABOUT: &str =

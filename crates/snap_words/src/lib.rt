@@ -23,7 +23,7 @@ mod stats_command;
 mod word;
 
 pub use color::Color;
-pub use drawing::{Form, MOST_CALLS, MOST_IN_LINES, Part, Place, Scheme};
+pub use drawing::{Form, Part, Place};
 pub use format::Format;
 pub use given::{Words, wanted_by, words_of};
 pub use input::{Input, names_input_twice};

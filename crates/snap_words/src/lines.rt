@@ -1,5 +1,5 @@
 //! What whole lines of words mean. Each law names lines by their words after the program's name, which may be any.
-ghost use Rattle.std.specs.Prelude.{◌∷◌, [], Some, codes, false, true};
+ghost use Rattle.std.specs.Prelude.{◌∷◌, [], None, Some, codes, false, true};
 ghost use Rattle.clap.specs.Words.{Text};
 ghost use Rattle.snap_core.specs.Limits.{event_limit};
 ghost use Rattle.snap_words.specs.Drawing.{AsksDraw, AsksDrawWithin, usual_part};
@@ -10,7 +10,7 @@ ghost use Rattle.snap_words.specs.Shrinking.{AsksShrink, AsksShrinkWithin, Draws
 ghost use Rattle.snap_words.specs.declared.color.Color.TheVariants.{Never};
 ghost use Rattle.snap_words.specs.declared.drawing.Form.TheVariants.{Lines, Page, Svg};
 ghost use Rattle.snap_words.specs.declared.drawing.Place.TheVariants.{Around, From};
-ghost use Rattle.snap_words.specs.declared.drawing.Scheme.TheVariants.{Dark, Light, Reader};
+ghost use Rattle.snap_options.specs.declared.scheme.Scheme.TheVariants.{Dark, Light};
 ghost use Rattle.snap_words.specs.declared.format.Format.TheVariants.{Json, Junit};
 ghost use Rattle.snap_words.specs.declared.shrunk.Shrunk.TheVariants.{Map, Picture, Witness};
 
@@ -54,16 +54,16 @@ pub fn picture_lines()
     ensures explain_all { (name : Text) → Means (name ∷ codes "explain" ∷ codes "--all" ∷ []) (codes "explain") (AsksExplanation false true 1) [] }
     ensures explain_faults { (name : Text) → Means (name ∷ codes "explain" ∷ codes "--faults" ∷ codes "10" ∷ []) (codes "explain") (AsksExplanation false false 10) [] }
     ensures drawn_faults { (name : Text) → Means (name ∷ codes "explain" ∷ codes "--draw" ∷ codes "--faults" ∷ codes "10" ∷ []) (codes "explain") DrawsFaults [] }
-    ensures draw_alone { (name : Text) → Means (name ∷ codes "draw" ∷ []) (codes "draw") (λ rows. AsksDraw rows (Page Reader)) [] }
-    ensures draw_light { (name : Text) → Means (name ∷ codes "draw" ∷ codes "--light" ∷ []) (codes "draw") (λ rows. AsksDraw rows (Page Light)) [] }
-    ensures draw_svg { (name : Text) → Means (name ∷ codes "draw" ∷ codes "--svg" ∷ []) (codes "draw") (λ rows. AsksDraw rows (Svg Reader)) [] }
-    ensures draw_dark { (name : Text) → Means (name ∷ codes "draw" ∷ codes "--svg" ∷ codes "--dark" ∷ []) (codes "draw") (λ rows. AsksDraw rows (Svg Dark)) [] }
+    ensures draw_alone { (name : Text) → Means (name ∷ codes "draw" ∷ []) (codes "draw") (λ rows. AsksDraw rows (Page None)) [] }
+    ensures draw_light { (name : Text) → Means (name ∷ codes "draw" ∷ codes "--light" ∷ []) (codes "draw") (λ rows. AsksDraw rows (Page (Some Light))) [] }
+    ensures draw_svg { (name : Text) → Means (name ∷ codes "draw" ∷ codes "--svg" ∷ []) (codes "draw") (λ rows. AsksDraw rows (Svg None)) [] }
+    ensures draw_dark { (name : Text) → Means (name ∷ codes "draw" ∷ codes "--svg" ∷ codes "--dark" ∷ []) (codes "draw") (λ rows. AsksDraw rows (Svg (Some Dark))) [] }
     ensures draw_text { (name : Text) → Means (name ∷ codes "draw" ∷ codes "--text" ∷ []) (codes "draw") (λ rows. AsksDraw rows Lines) [] }
     ensures shrink_events { (name : Text) → Means (name ∷ codes "shrink" ∷ codes "--events" ∷ codes "1048576" ∷ []) (codes "shrink") (AsksShrinkWithin 1048576 Witness) [] }
     ensures explain_events { (name : Text) → Means (name ∷ codes "explain" ∷ codes "--events" ∷ codes "1048576" ∷ []) (codes "explain") (AsksExplanationWithin 1048576 false false 1) [] }
-    ensures draw_events { (name : Text) → Means (name ∷ codes "draw" ∷ codes "--events" ∷ codes "1048576" ∷ []) (codes "draw") (λ rows. AsksDrawWithin 1048576 rows (Page Reader) usual_part) [] }
-    ensures draw_from { (name : Text) → Means (name ∷ codes "draw" ∷ codes "--calls" ∷ codes "500" ∷ codes "--from" ∷ codes "5" ∷ []) (codes "draw") (λ rows. AsksDrawWithin event_limit rows (Page Reader) (record { calls = Some 500; place = From 5 })) [] }
-    ensures draw_around { (name : Text) → Means (name ∷ codes "draw" ∷ codes "--around" ∷ codes "5" ∷ []) (codes "draw") (λ rows. AsksDrawWithin event_limit rows (Page Reader) (record usual_part { place = Around 5 })) [] }
+    ensures draw_events { (name : Text) → Means (name ∷ codes "draw" ∷ codes "--events" ∷ codes "1048576" ∷ []) (codes "draw") (λ rows. AsksDrawWithin 1048576 rows (Page None) usual_part) [] }
+    ensures draw_from { (name : Text) → Means (name ∷ codes "draw" ∷ codes "--calls" ∷ codes "500" ∷ codes "--from" ∷ codes "5" ∷ []) (codes "draw") (λ rows. AsksDrawWithin event_limit rows (Page None) (record { calls = Some 500; place = From 5 })) [] }
+    ensures draw_around { (name : Text) → Means (name ∷ codes "draw" ∷ codes "--around" ∷ codes "5" ∷ []) (codes "draw") (λ rows. AsksDrawWithin event_limit rows (Page None) (record usual_part { place = Around 5 })) [] }
 {}
 
 /// What lines of `stats` ask for: lines, if nothing else is said. A line that names standard input twice asks for no job.

@@ -6,7 +6,7 @@ ghost use Rattle.snap_words.specs.Jobs.{AreFaults, AreViews, IsOneForm, IsWindow
 
 use crate::format::Format;
 use crate::job::Options;
-use crate::word::FAULT_LIMIT;
+use snap_options::FAULT_LIMIT;
 use snap_record::WORKER_LIMIT;
 
 /// The greatest number of events of a round: two calls of each worker.

@@ -42,7 +42,8 @@ it takes both views and update 0:2, which the second misses:
 An atomic history has no fault, and is written as it is, without stamps.
 
 With --draw the picture of that history is written in its place, by lines of characters as
-`snapjudge draw --text` writes it. A picture is not a history, so it can't be judged.
+`snapjudge draw --text` writes it. Below each call of a witness stands the number that it has
+in the history that was read. A picture is not a history, so it can't be judged.
 
 With --map a table is written in its place, with a line for each call of that history: its
 number, its process, and the records of its begin and its end, and then those that the call

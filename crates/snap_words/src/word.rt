@@ -57,9 +57,6 @@ pub(crate) struct Word<'a> {
 /// The greatest number that a word can have.
 pub(crate) const NUMBER_LIMIT: u32 = 4_294_967_295;
 
-/// The greatest number of faults of a kind that an explanation has.
-pub(crate) const FAULT_LIMIT: u32 = 1000;
-
 /// The limit of events of a command that reads a history.
 pub(crate) const EVENTS: Word<'static> = Word {
     id: "events",

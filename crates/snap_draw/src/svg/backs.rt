@@ -57,7 +57,7 @@ pub(crate) fn put_backs(
     if points.is_empty() {
         return Ok(());
     }
-    out.extend_from_slice(b"<g data-id=\"backs\" fill=\"#ffffff\">")?;
+    out.extend_from_slice(b"<g data-id=\"backs\" fill=\"--ground\">")?;
     put_label_backs(alloc, out, picture, width)?;
     put_place_backs(alloc, out, points)?;
     out.extend_from_slice(b"</g>\n")

@@ -57,8 +57,8 @@ fn put_numbers(out: &mut Vec<u8>, records: &[u32], bar: &Bar) -> Result<(), Allo
 // Adds what names a call: its classes, its number and its records.
 fn put_names(out: &mut Vec<u8>, picture: &Picture<'_, '_>, bar: &Bar) -> Result<(), AllocError> {
     put_classes(out, &picture.shapes.marks, bar)?;
-    put_numbers(out, picture.records, bar)?;
-    put_title(out, picture.index, picture.records, bar)?;
+    put_numbers(out, picture.numbering.records, bar)?;
+    put_title(out, picture, bar)?;
     out.extend_from_slice(b"</title>")
 }
 
@@ -160,7 +160,7 @@ fn put_tag(
     let place = (x_of(bar.begin), y_of(bar.lane, 49));
     put_words(
         out,
-        b"<text class=\"tag\" fill=\"#b3261e\" font-weight=\"bold\" x=\"",
+        b"<text class=\"tag\" fill=\"--fault\" font-weight=\"bold\" x=\"",
         place,
         text,
         room,

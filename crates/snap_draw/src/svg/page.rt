@@ -1,6 +1,4 @@
 //! The page around a picture, with a style for light and dark. No byte of it depends on a history.
-use super::scheme::Scheme;
-use std::alloc::AllocError;
 
 /// What a page has before its colours.
 pub(crate) const HEAD: &[u8] = b"\
@@ -14,17 +12,8 @@ pub(crate) const HEAD: &[u8] = b"\
 <style>
 ";
 
-// The colours of a light page, by name.
-const LIGHT: &[u8] =
-    b"--ground: #ffffff; --ink: #1c2127; --faint: #c3c9d0; --quiet: #59636e; --update: #2c69a8; --view: #ffffff; --edge: #1d6b52; --fault: #b3261e; --wash: #fbe3e0; --line: #7a4d9f;";
-
-// The colours of a dark page, by name.
-const DARK: &[u8] =
-    b"--ground: #15181c; --ink: #e8ebee; --faint: #444c55; --quiet: #a3adb8; --update: #5b9bd9; --view: #15181c; --edge: #5cc3a0; --fault: #ff8a7f; --wash: #4a2320; --line: #c79bea;";
-
 /// The style of a page after its colours, and the page up to its picture.
 pub(crate) const STYLE: &[u8] = b"\
-@media print { :root { color-scheme: light; --ground: #ffffff; --ink: #000000; --faint: #bbbbbb; --quiet: #444444; --update: #2c69a8; --view: #ffffff; --edge: #1d6b52; --fault: #b3261e; --wash: #fbe3e0; --line: #7a4d9f; } }
 [data-id=run] { background: var(--ground); color: var(--ink); font: 11px ui-monospace, 'DejaVu Sans Mono', Menlo, Consolas, monospace; }
 [data-id=run] text { fill: var(--ink); }
 .ground { display: none; }
@@ -102,26 +91,3 @@ pub(crate) const TAIL: &[u8] = b"\
 </ul>
 <p id='help'><kbd>+</kbd> <kbd>-</kbd> or the wheel: larger, smaller. <kbd>0</kbd>: the whole picture. Arrows or a drag: move. <kbd>Tab</kbd>: the next call. A click on the strip of a long run: that part of it. The numbers above the bars are the records of the text. <code>p0</code> is process 0. <code>0:1:7</code> is component 0, its update 1 and the value 7.</p>
 ";
-
-// Adds the colours of the whole page.
-fn put_root(out: &mut Vec<u8>, schemes: &[u8], colours: &[u8]) -> Result<(), AllocError> {
-    out.extend_from_slice(b":root { color-scheme: ")?;
-    out.extend_from_slice(schemes)?;
-    out.extend_from_slice(b"; ")?;
-    out.extend_from_slice(colours)?;
-    out.extend_from_slice(b" }\n")
-}
-
-/// Adds the colours of a page: those of a scheme, or if none is given those of the reader's system.
-pub(crate) fn put_colours(out: &mut Vec<u8>, scheme: Option<Scheme>) -> Result<(), AllocError> {
-    match scheme {
-        Some(Scheme::Light) => put_root(out, b"light", LIGHT),
-        Some(Scheme::Dark) => put_root(out, b"dark", DARK),
-        None => {
-            put_root(out, b"light dark", LIGHT)?;
-            out.extend_from_slice(b"@media (prefers-color-scheme: dark) { :root { ")?;
-            out.extend_from_slice(DARK)?;
-            out.extend_from_slice(b" } }\n")
-        }
-    }
-}

@@ -67,7 +67,7 @@ pub(crate) fn put_line(out: &mut Vec<u8>, points: &[Point]) -> Result<(), AllocE
         return Ok(());
     }
     out.extend_from_slice(
-        b"<g data-id=\"order\"><path class=\"line\" fill=\"none\" stroke=\"#7a4d9f\" stroke-width=\"1.5\" stroke-opacity=\"0.8\" stroke-linejoin=\"round\" d=\"",
+        b"<g data-id=\"order\"><path class=\"line\" fill=\"none\" stroke=\"--line\" stroke-width=\"1.5\" stroke-opacity=\"0.8\" stroke-linejoin=\"round\" d=\"",
     )?;
     let mut step: &[u8] = b"M ";
     for point in points {
@@ -86,7 +86,7 @@ fn put_place(out: &mut Vec<u8>, point: &Point, x: u64) -> Result<(), AllocError>
             (b"<circle class=\"point\" cx=\"", x),
             (b"\" cy=\"", y_of(point.lane, 27)),
             (
-                b"\" r=\"4\" stroke=\"#ffffff\" stroke-width=\"1.5\"/><text class=\"place\" data-id=\"place-",
+                b"\" r=\"4\" stroke=\"--ground\" stroke-width=\"1.5\"/><text class=\"place\" data-id=\"place-",
                 point.place,
             ),
             (b"\" x=\"", x),
@@ -103,7 +103,7 @@ pub(crate) fn put_places(out: &mut Vec<u8>, points: &[Point]) -> Result<(), Allo
         return Ok(());
     }
     out.extend_from_slice(
-        b"<g data-id=\"places\" fill=\"#7a4d9f\" font-weight=\"bold\" text-anchor=\"middle\">",
+        b"<g data-id=\"places\" fill=\"--line\" font-weight=\"bold\" text-anchor=\"middle\">",
     )?;
     for point in points {
         put_place(out, point, spread(points, point))?;

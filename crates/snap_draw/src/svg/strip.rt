@@ -77,12 +77,12 @@ fn put_window(
         &[
             (b"<rect class=\"all\" x=\"64\" y=\"34\" width=\"", width),
             (
-                b"\" height=\"8\" fill=\"#c3c9d0\"/><rect class=\"window\" x=\"",
+                b"\" height=\"8\" fill=\"--faint\"/><rect class=\"window\" x=\"",
                 from,
             ),
             (b"\" y=\"31\" width=\"", to.saturating_sub(from)),
         ],
-        b"\" height=\"14\" fill=\"none\" stroke=\"#59636e\" stroke-width=\"1.5\"/>",
+        b"\" height=\"14\" fill=\"none\" stroke=\"--quiet\" stroke-width=\"1.5\"/>",
     )
 }
 
@@ -93,7 +93,7 @@ fn put_tick(out: &mut Vec<u8>, kind: Kind, x: u64) -> Result<(), AllocError> {
     put_parts(
         out,
         &[(b"\" d=\"M ", x)],
-        b" 29 v 18\" fill=\"none\" stroke=\"#b3261e\" stroke-width=\"3\"/>",
+        b" 29 v 18\" fill=\"none\" stroke=\"--fault\" stroke-width=\"3\"/>",
     )
 }
 

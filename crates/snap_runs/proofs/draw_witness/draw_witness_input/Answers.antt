@@ -1,6 +1,7 @@
-use Rattle.std.proofs.Common.{inl, inr}
+use Rattle.std.proofs.Common.{inl, inr, subst, sym}
 use Rattle.snap_core.specs.Counting.{inner_of}
 use Rattle.snap_check.proofs.Runs.{from_history, from_refusal}
+use Rattle.snap_runs.specs.WitnessDrawing.{AreBeside}
 use Rattle.snap_runs.proofs.draw_witness.draw_witness_input.Goals as goal
 
 pub returns-in-History-clause-answer : goal.returns-in-History-clause-answer
@@ -10,7 +11,9 @@ returns-in-History-clause-answer g c =
       events = c.in-History.history.events;
       left = c.in_ok-status-in-History.left.events;
       history = reads;
-      cut = c.in_ok-status-in-History.ensures;
+      cut = c.in_ok-status-in-History.ensures.cut;
+      numbers = c.deref.result.now;
+      beside = subst (AreBeside c.in-History.history.events c.in_ok-status-in-History.left.events) (sym c.deref.ensures.value) c.in_ok-status-in-History.ensures.beside;
       drawn = c.in_ok-text-in-History.ensures;
     }))
 
