@@ -46,5 +46,3 @@ mod shrinking;
 mod stamped_following;
 #[cfg(test)]
 mod telling;
-#[cfg(test)]
-mod witness_drawing;
