@@ -1,4 +1,6 @@
 //! The check of a recording that grows.
+ghost use Rattle.std.specs.Prelude.{◌≡◌, unwrap_or};
+
 use crate::failure::Failure;
 use crate::files::{say_trouble, system};
 use crate::names::{say, say_none};
@@ -55,7 +57,9 @@ fn until_of(name: &[u8], windows: Windows) -> Until {
 }
 
 // The exit status of a recording that was followed. It says on standard error how it ended.
-fn code_of(host: &HostRuntime, followed: Followed, windows: Windows) -> u8 {
+fn code_of(host: &HostRuntime, followed: Followed, windows: Windows) -> u8
+    ensures { result ≡ unwrap_or followed.code 3 }
+{
     if let Some(lost) = &followed.lost {
         say_lost(host, lost);
     }

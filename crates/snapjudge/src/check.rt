@@ -1,6 +1,16 @@
-//! The checks of one text and of several files.
+//! The checks of one text and of several files. Each is a part over readers and writers, and a start of that part on the system.
+ghost use Rattle.std.specs.Prelude.{◌≡◌, ◌≢◌, IfOk, false, true};
+ghost use Rattle.snap_check.specs.Options.{IsReportWith};
+ghost use Rattle.snap_check.specs.Runs.{WroteBy};
+ghost use Rattle.snap_core.specs.Counting.{failures_in, inner_of};
+ghost use Rattle.snap_files.specs.Files.{ChecksAll};
+ghost use Rattle.snap_files.specs.Suites.{WritesSuite};
+ghost use Rattle.snap_files.specs.Sums.{SumsAll};
+ghost use Rattle.snap_words.specs.declared.format.Format.TheVariants as asks;
+ghost use Rattle.snapjudge.specs.Checks.{check_of, options_of};
+
 use crate::options::file_options;
-use snap_check::{RunFault, check_run_with};
+use snap_check::{RunFault, Status, check_run_with};
 use snap_commands::{
     Cleared, Failure, Outlet, Painted, Progress, Watched, in_colors, names_of, open_only,
     progress_of, system, too_few_views,
@@ -12,8 +22,24 @@ use snap_threads::Cutting;
 use snap_words::{Format, Input, Options};
 use std::alloc::{AllocError, Global};
 use std::fs::File;
-use std::io::Write;
+use std::io::{Read, Write};
 use std::thread::Threads;
+
+// The check of a reader's text by the options that are asked for. It answers nothing if the history has too few views.
+fn check_from<Rt: Threads + Sync, R: Read, W: Write>(
+    rt: &Rt,
+    alloc: Global,
+    reader: &mut Counted<R>,
+    writer: &mut Counted<W>,
+    cutting: Cutting,
+    limit: Limit,
+    asked: Options,
+) -> Result<Option<Status>, RunFault>
+    ensures { WroteBy (IsReportWith (check_of limit asked)) (R.remaining (inner_of reader.old)) (W.contents (inner_of writer.old)) (W.contents (inner_of writer.new)) result }
+{
+    let check = file_options(limit, asked).check;
+    check_run_with(rt, alloc, reader, writer, cutting, &OpenGate, check)
+}
 
 fn check_text<Rt: Threads + Sync>(
     rt: &Rt,
@@ -25,14 +51,14 @@ fn check_text<Rt: Threads + Sync>(
 ) -> Result<u8, Failure> {
     let mut reader = Counted::new(text);
     let mut writer = Counted::new(Painted::new(Outlet::new(host.stdout()), in_colors(host, asked)));
-    match check_run_with(
+    match check_from(
         rt,
         host.alloc(),
         &mut reader,
         &mut writer,
         cutting,
-        &OpenGate,
-        file_options(limit, asked).check,
+        limit,
+        asked,
     ) {
         Ok(Some(status)) => Ok(status.code()),
         Ok(None) => Ok(too_few_views(host, asked.views).code()),
@@ -51,7 +77,14 @@ fn answer_all<Rt: Threads + Sync, O: Opener, W: Write, E: Write>(
     cutting: Cutting,
     limit: Limit,
     asked: Options,
-) -> Result<u8, RunFault> {
+) -> Result<u8, RunFault>
+    ensures sums { asked.summary ≡ true → IfOk result (SumsAll (O.opens opener.now) (check_of limit asked) names.now (W.contents (inner_of writer.old)) (W.contents (inner_of writer.new))
+        (E.contents (inner_of errors.old)) (E.contents (inner_of errors.new)) (failures_in errors.old) (failures_in errors.new)) }
+    ensures document { asked.summary ≡ false → asked.format ≡ asks.Junit → IfOk result (WritesSuite (O.opens opener.now) (check_of limit asked) names.now (W.contents (inner_of writer.old)) (W.contents (inner_of writer.new))
+        (E.contents (inner_of errors.old)) (E.contents (inner_of errors.new)) (failures_in errors.old) (failures_in errors.new)) }
+    ensures each { asked.summary ≡ false → asked.format ≢ asks.Junit → IfOk result (ChecksAll (O.opens opener.now) (options_of limit asked) names.now (W.contents (inner_of writer.old)) (W.contents (inner_of writer.new))
+        (E.contents (inner_of errors.old)) (E.contents (inner_of errors.new)) (failures_in errors.old) (failures_in errors.new)) }
+{
     let options = file_options(limit, asked);
     let check = options.check;
     if asked.summary {
