@@ -343,7 +343,7 @@ def try_beside(count, program, name, path, text):
     report, said = (asked(program, word, given=witness)[1] for word in ("check", "explain"))
     faults, order = faults_of(report, calls_of(witness))
     if sources:
-        count.same(text.split("\n")[0], said.split(":")[0], f"{name}: verdict of its witness")
+        count.same(text.split("\n")[0], said.split("\n")[0], f"{name}: verdict of its witness")
         try_lines(count, f"{name}, its witness", text, calls_of(witness), faults, order, said.splitlines(), sources)
     else:
         count.same(text, asked(program, "draw", "--text", path)[1], f"{name}: the picture of a run that is left whole")
