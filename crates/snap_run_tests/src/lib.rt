@@ -46,3 +46,5 @@ mod shrinking;
 mod stamped_following;
 #[cfg(test)]
 mod telling;
+#[cfg(test)]
+mod witness_drawing;
