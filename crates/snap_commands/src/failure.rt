@@ -1,4 +1,8 @@
 //! Why a command has no exit status of its own.
+ghost use Rattle.std.specs.Prelude.{◌≡◌, ◌⊎◌};
+ghost use Rattle.snap_check.specs.declared.fault.RunFault.TheVariants as faults;
+ghost use Rattle.snap_commands.specs.declared.failure.Failure.TheVariants.{Run, Unheard, Words};
+
 use crate::outlet::Outlet;
 use snap_check::RunFault;
 use snap_words::JobFault;
@@ -19,7 +23,9 @@ pub enum Failure {
 
 impl Failure {
     /// Why a run with this fault has no exit status. It wrote to the outlet.
-    pub fn of_run<W>(fault: RunFault, outlet: &Outlet<W>) -> Failure {
+    pub fn of_run<W>(fault: RunFault, outlet: &Outlet<W>) -> Failure
+        ensures { (result ≡ Run fault) ⊎ ((fault ≡ faults.Write) × (result ≡ Unheard)) }
+    {
         match fault {
             RunFault::Write if outlet.is_closed() => Failure::Unheard,
             fault => Failure::Run(fault),
@@ -28,18 +34,24 @@ impl Failure {
 }
 
 impl From<JobFault> for Failure {
+    ghost from_gives = { λ fault failure. failure ≡ Words fault };
+
     fn from(fault: JobFault) -> Failure {
         Failure::Words(fault)
     }
 }
 
 impl From<AllocError> for Failure {
+    ghost from_gives = { λ _ failure. failure ≡ Run faults.Memory };
+
     fn from(_error: AllocError) -> Failure {
         Failure::Run(RunFault::Memory)
     }
 }
 
 impl From<RunFault> for Failure {
+    ghost from_gives = { λ fault failure. failure ≡ Run fault };
+
     fn from(fault: RunFault) -> Failure {
         Failure::Run(fault)
     }

@@ -7,7 +7,7 @@ use Rattle.std.specs.Str.{is_utf8}
 abbrev pub escaped : ℕ → List ℕ
 escaped b = codes "\\x" ++ digit_char (b / 16) ∷ digit_char (b % 16) ∷ []
 
--- a byte is shown as it is if it controls no terminal, and is ASCII or of a name that is UTF-8
+-- a byte is shown as it is if it is no control byte of ASCII, and is ASCII or of a name that is UTF-8
 abbrev pub is_plain : Bool → ℕ → Bool
 is_plain is_text b = not (is_ascii_control b) && (is_text || is_ascii b)
 

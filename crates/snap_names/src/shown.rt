@@ -55,8 +55,8 @@ fn is_text(name: &[u8]) -> bool
     str::from_utf8(name).is_ok()
 }
 
-/// Adds a name as it is shown. Line ends, other control bytes and backslashes are escaped, and so is each byte above 127 of a
-/// name that is not UTF-8. So a name never breaks a line, and sends no command to a terminal.
+/// Adds a name as it is shown. Line ends, other control bytes of ASCII and backslashes are escaped, and so is each byte above 127 of
+/// a name that is not UTF-8. So a name never breaks a line, and sends a terminal no control byte of ASCII.
 pub fn put_shown(out: &mut Vec<u8>, name: &[u8]) -> Result<(), AllocError>
     ensures { OnOk result (out.new.items ≡ out.old.items ++ shown name.now) }
 {
