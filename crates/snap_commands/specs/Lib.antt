@@ -1,3 +1,4 @@
 pub mod Failures
+pub mod Outlets
 pub mod Painting
 pub mod Pictures

@@ -1,6 +1,7 @@
 //! Why a command has no exit status of its own.
-ghost use Rattle.std.specs.Prelude.{◌≡◌, ◌⊎◌};
+ghost use Rattle.std.specs.Prelude.{◌≡◌, ◌≢◌, false, true};
 ghost use Rattle.snap_check.specs.declared.fault.RunFault.TheVariants as faults;
+ghost use Rattle.snap_commands.specs.Outlets.{is_closed};
 ghost use Rattle.snap_commands.specs.declared.failure.Failure.TheVariants.{Run, Unheard, Words};
 
 use crate::outlet::Outlet;
@@ -24,7 +25,9 @@ pub enum Failure {
 impl Failure {
     /// Why a run with this fault has no exit status. It wrote to the outlet.
     pub fn of_run<W>(fault: RunFault, outlet: &Outlet<W>) -> Failure
-        ensures { (result ≡ Run fault) ⊎ ((fault ≡ faults.Write) × (result ≡ Unheard)) }
+        ensures fault { (fault ≢ faults.Write) → result ≡ Run fault }
+        ensures heard { is_closed outlet.now ≡ false → result ≡ Run fault }
+        ensures unheard { fault ≡ faults.Write → is_closed outlet.now ≡ true → result ≡ Unheard }
     {
         match fault {
             RunFault::Write if outlet.is_closed() => Failure::Unheard,

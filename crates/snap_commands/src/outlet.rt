@@ -1,4 +1,7 @@
 //! A writer that remembers whether its reader has gone.
+ghost use Rattle.std.specs.Prelude.{◌≡◌, false};
+ghost use Rattle.snap_commands.specs.Outlets.{is_closed};
+
 use std::io;
 use std::io::{ErrorKind, Write};
 
@@ -11,7 +14,9 @@ pub struct Outlet<W> {
 
 impl<W> Outlet<W> {
     /// The writer over another, whose reader has not gone.
-    pub fn new(inner: W) -> Outlet<W> {
+    pub fn new(inner: W) -> Outlet<W>
+        ensures { is_closed result ≡ false }
+    {
         Outlet {
             inner,
             is_closed: false,
@@ -19,7 +24,9 @@ impl<W> Outlet<W> {
     }
 
     /// Whether the last failed write failed because nobody reads any more.
-    pub fn is_closed(&self) -> bool {
+    pub fn is_closed(&self) -> bool
+        ensures { result ≡ is_closed self.now }
+    {
         self.is_closed
     }
 }

@@ -2,63 +2,57 @@
 use Rattle.std.proofs.Common.{◌≡◌, ◌<◌, ◌+◌, ℕ, suc, List, [], ◌∷◌, length, map, get_or, Option, Some, refl, sym, ap, ◌∙◌, subst, inl, inr, arith, All}
 use Rattle.std.specs.Option.{option_map}
 use Rattle.std.specs.List.{range_with_len}
+use Rattle.std.proofs.lemmas.List.{length-map}
 use Rattle.std.proofs.lemmas.List.FromFn.{get_or-range_with_len, length-range_with_len}
 use Rattle.snap_core.specs.declared.event.Event.{Event}
-use Rattle.snap_core.specs.Limited.{LimitedEvents}
 use Rattle.snap_core.specs.Calls.{Call, call_numbered, calls_of, nobody}
 use Rattle.snap_core.specs.Events.{IsBoundedHistory}
 use Rattle.snap_core.specs.Orders.{IsAtomic}
 use Rattle.snap_index.proofs.IndexedCalls.{mapped_some}
-use Rattle.snap_theory.specs.FaultWitnesses.{Fault, IsFaultOf, fault_calls, fault_updates, fault_witness}
+use Rattle.snap_theory.specs.FaultWitnesses.{fault_witness}
 use Rattle.snap_theory.specs.First.{first_fault}
-use Rattle.snap_theory.specs.Kept.{is_place_of}
-use Rattle.snap_theory.specs.Witness.{numbers_of}
 use Rattle.snap_theory.proofs.First.{first_is}
-use Rattle.snap_witness.specs.Keeping.{as_kept, calls_kept, numbers_kept}
-use Rattle.snap_witness.proofs.KeptCalls.{calls_are_kept, same_count}
+use Rattle.snap_witness.specs.Keeping.{calls_kept, numbers_kept}
+use Rattle.snap_witness.proofs.KeptCalls.{calls_are_kept, length-as_kept}
 use Rattle.snap_witness.proofs.Numbers.{kept_numbered, kept_within}
 use Rattle.snap_format.specs.Records.{HaveRecords}
 use Rattle.snap_verdict.specs.declared.status.Status.{Status}
+use Rattle.snap_runs.specs.Cutting.{AreOfWitness}
 use Rattle.snap_runs.specs.Mapping.{AreOfFault, AreSources, IsMapped, MapsHistory}
-use Rattle.snap_runs.specs.WitnessDrawing.{AreOfWitness}
 
--- the witness of the first fault, and the numbers of the calls that it keeps
-pub record IsKept (es : List Event) (numbers : List ℕ) (left : List Event) : Type 0 where
-  pub fault : Fault
-  pub first : first_fault (calls_of es) ≡ Some fault
-  pub there : IsFaultOf (calls_of es) fault
-  pub numbers_are : numbers_kept es fault ≡ numbers
-  pub left_is : left ≡ fault_witness es fault
-
-pub is_kept : (es : List Event) (numbers : List ℕ) (answer : Option LimitedEvents) (left : LimitedEvents) → answer ≡ Some left → Some numbers ≡ option_map (numbers_kept es) (first_fault (calls_of es)) →
-    option_map (λ h. h.events) answer ≡ option_map (fault_witness es) (first_fault (calls_of es)) → IsKept es numbers left.events
-is_kept es numbers answer left is kept first =
+-- the numbers that are kept of a history, and what is left of it, are those of its first fault
+pub witness_numbers : (es : List Event) (left : List Event) (numbers : List ℕ) → IsBoundedHistory es → Some numbers ≡ option_map (numbers_kept es) (first_fault (calls_of es)) →
+    Some left ≡ option_map (fault_witness es) (first_fault (calls_of es)) → AreOfWitness es left numbers
+witness_numbers es left numbers h kept first =
     let m = mapped_some (numbers_kept es) (first_fault (calls_of es)) numbers (sym kept) in
-    let same : Some left.events ≡ Some (fault_witness es m.from) = sym (ap (option_map (λ (h : LimitedEvents). h.events)) is) ∙ first ∙ ap (option_map (fault_witness es)) m.is in
-    record { fault = m.from; first = m.is; there = (first_is (calls_of es) m.from m.is).fault; numbers_are = m.to; left_is = cc }
-
--- the calls that a witness keeps are those that it is made from
-kept_of_fault : (es : List Event) (numbers : List ℕ) (left : List Event) (sources : List Call) → IsBoundedHistory es → (k : IsKept es numbers left) → sources ≡ calls_kept es k.fault → AreOfFault es left sources
-kept_of_fault es numbers left sources h k same =
+    let left_is : left ≡ fault_witness es m.from = let same : Some left ≡ Some (fault_witness es m.from) = first ∙ ap (option_map (fault_witness es)) m.is in cc in
     record {
-      fault = k.fault;
-      first = k.first;
-      kept = same;
-      same = ap calls_of k.left_is ∙ calls_are_kept es h k.fault k.there ∙ ap (as_kept (is_place_of (fault_calls es k.fault)) (numbers_of (fault_updates k.fault)) 0) (sym same);
+      sources = calls_kept es m.from;
+      of_fault = record {
+        fault = m.from;
+        first = m.is;
+        kept = refl;
+        same = ap calls_of left_is ∙ calls_are_kept es h m.from (first_is (calls_of es) m.from m.is).fault;
+      };
+      are = sym m.to;
     }
 
-pub kept_sources : (es : List Event) (numbers : List ℕ) (left : List Event) → IsBoundedHistory es → IsKept es numbers left → AreSources es left (map (call_numbered (calls_of es)) numbers)
-kept_sources es numbers left h k =
-    inr (kept_of_fault es numbers left _ h k (ap (map (call_numbered (calls_of es))) (sym k.numbers_are) ∙ kept_numbered es k.fault))
+-- the numbers of a witness are those of the calls that the fault keeps
+numbers_are : (es left : List Event) (numbers : List ℕ) → (w : AreOfWitness es left numbers) → numbers ≡ numbers_kept es w.of_fault.fault
+numbers_are es left numbers w = w.are ∙ ap (map (λ (c : Call). c.number)) w.of_fault.kept
 
-pub kept_beside : (es : List Event) (numbers : List ℕ) (left : List Event) → IsBoundedHistory es → IsKept es numbers left → AreOfWitness es left numbers
-kept_beside es numbers left h k = record { sources = calls_kept es k.fault; of_fault = kept_of_fault es numbers left _ h k refl; are = sym k.numbers_are }
+pub witness_sources : (es left : List Event) (numbers : List ℕ) → AreOfWitness es left numbers → AreSources es left (map (call_numbered (calls_of es)) numbers)
+witness_sources es left numbers w =
+    let same : w.sources ≡ map (call_numbered (calls_of es)) numbers =
+    w.of_fault.kept ∙ sym (kept_numbered es w.of_fault.fault) ∙ sym (ap (map (call_numbered (calls_of es))) (numbers_are es left numbers w)) in
+    inr (subst (AreOfFault es left) same w.of_fault)
 
-pub kept_count : (es : List Event) (numbers : List ℕ) (left : List Event) → IsBoundedHistory es → IsKept es numbers left → length numbers ≡ length (calls_of left)
-kept_count es numbers left h k = ap length (sym k.numbers_are) ∙ same_count es h k.fault k.there ∙ ap (λ z. length (calls_of z)) (sym k.left_is)
+pub witness_count : (es left : List Event) (numbers : List ℕ) → AreOfWitness es left numbers → length numbers ≡ length (calls_of left)
+witness_count es left numbers w =
+    ap length w.are ∙ length-map w.sources (λ c. c.number) ∙ sym (length-as_kept _ _ 0 w.sources) ∙ sym (ap length w.of_fault.same)
 
-pub kept_below : (es : List Event) (numbers : List ℕ) (left : List Event) → IsKept es numbers left → All (λ n. n < length (calls_of es)) numbers
-kept_below es numbers left k = subst (All (λ n. n < length (calls_of es))) k.numbers_are (kept_within es k.fault)
+pub witness_below : (es left : List Event) (numbers : List ℕ) → AreOfWitness es left numbers → All (λ n. n < length (calls_of es)) numbers
+witness_below es left numbers w = subst (All (λ n. n < length (calls_of es))) (sym (numbers_are es left numbers w)) (kept_within es w.of_fault.fault)
 
 -- all calls, by their numbers
 

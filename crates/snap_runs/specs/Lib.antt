@@ -1,5 +1,6 @@
 pub mod Shrinking
 pub mod Mapping
+pub mod Cutting
 pub mod Explaining
 pub mod Recordings
 pub mod Stats

@@ -1,6 +1,5 @@
 -- What a history is cut down to.
-use Rattle.std.specs.Prelude.{◌≡◌, ◌≤◌, ◌⊎◌, ◌↔◌, ℕ, List, length, Option, Some, None}
-use Rattle.snap_core.specs.Limited.{LimitedEvents}
+use Rattle.std.specs.Prelude.{◌≡◌, ◌≤◌, ◌⊎◌, ◌↔◌, ℕ, List, length}
 use Rattle.snap_core.specs.declared.event.Event.{Event}
 use Rattle.snap_core.specs.Calls.{calls_of}
 use Rattle.snap_core.specs.Orders.{IsAtomic}
@@ -21,11 +20,6 @@ pub record IsWitnessOf (events : List Event) (witness : List Event) : Type 0 whe
   pub fault : HasFirstFault events witness
   pub not_atomic : IsAtomic (calls_of witness) → ⊥
   pub regular : IsRegular (calls_of witness) ↔ IsRegular (calls_of events)
-
--- the status of a history, and a witness exactly if it is not atomic
-abbrev pub IsFirstWitness : List Event → Status → Option LimitedEvents → Type 0
-IsFirstWitness events status (Some witness) = HasStatus events status × (IsAtomic (calls_of events) → ⊥) × IsWitnessOf events witness.events
-IsFirstWitness events status None = HasStatus events status × IsAtomic (calls_of events)
 
 -- the status of a history, and what it is cut to: itself if it is atomic, and otherwise a witness
 pub record IsCutTo (events : List Event) (status : Status) (left : List Event) : Type 0 where

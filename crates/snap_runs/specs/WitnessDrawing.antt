@@ -1,27 +1,15 @@
 -- What is written if the picture of a witness is drawn.
-use Rattle.std.specs.Prelude.{◌≡◌, ◌⊎◌, ℕ, List, [], length, map}
+use Rattle.std.specs.Prelude.{◌⊎◌, ℕ, List, length}
 use Rattle.std.specs.List.{range_with_len}
 use Rattle.snap_core.specs.declared.event.Event.{Event}
-use Rattle.snap_core.specs.Calls.{Call, calls_of}
-use Rattle.snap_core.specs.Orders.{IsAtomic}
 use Rattle.snap_format.specs.Texts.{IsText}
 use Rattle.snap_draw.specs.declared.window.Window.{Window}
 use Rattle.snap_explain.specs.declared.view.Entries.{Entries}
+use Rattle.snap_runs.specs.Cutting.{AreBeside}
 use Rattle.snap_runs.specs.Shrinking.{IsCutTo}
 use Rattle.snap_verdict.specs.declared.status.Status.{Status}
 use Rattle.snap_verdict.specs.Reports.{IsRefused}
 use Rattle.snap_runs.specs.Drawing.{IsDrawing, Writes}
-use Rattle.snap_runs.specs.Mapping.{AreOfFault}
-
--- the numbers of the calls of a history that those of its witness are made from, as the table of `shrink --map` has them
-pub record AreOfWitness (events left : List Event) (numbers : List ℕ) : Type 0 where
-  pub sources : List Call
-  pub of_fault : AreOfFault events left sources
-  pub are : numbers ≡ map (λ (c : Call). c.number) sources
-
--- the numbers that stand beside those of the calls that are left. An atomic history is left whole, so there are none
-abbrev pub AreBeside : List Event → List Event → List ℕ → Type 0
-AreBeside events left numbers = (IsAtomic (calls_of events) × (numbers ≡ [])) ⊎ AreOfWitness events left numbers
 
 -- the picture of what a history is cut down to: its witness, or itself if it is atomic. The records are those of the text of that, and
 -- beside the numbers of its calls stand those in the history. The history may have up to most events

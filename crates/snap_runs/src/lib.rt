@@ -2,6 +2,7 @@
 //! a picture, counts, or a recording. The test case of a text is made here too.
 #![tactic(auto)]
 
+mod cut;
 mod draw;
 mod draw_witness;
 mod explain;

@@ -1,28 +1,25 @@
 //! The run that writes which calls of a history its witness keeps.
-ghost use Rattle.std.specs.Prelude.{◌≡◌, Some, IfOk, length, option_map};
+ghost use Rattle.std.specs.Prelude.{◌≡◌, IfOk, length};
 ghost use Rattle.std.specs.List.{range_with_len};
-ghost use Rattle.snap_core.specs.Calls.{calls_of, views_of};
+ghost use Rattle.snap_core.specs.Calls.{calls_of};
 ghost use Rattle.snap_core.specs.Counting.{failures_in, inner_of};
 ghost use Rattle.snap_core.specs.Orders.{IsAtomic};
-ghost use Rattle.snap_conditions.specs.Tally.{tally_of};
 ghost use Rattle.snap_check.specs.Runs.{JudgeCounts, JudgesBy, RunCounts, WroteBy};
-ghost use Rattle.snap_theory.specs.First.{first_fault};
 ghost use Rattle.snap_verdict.specs.declared.status.Status.{Status as SpecStatus};
 ghost use Rattle.snap_verdict.specs.Verdicts.{HasStatus};
-ghost use Rattle.snap_witness.specs.Keeping.{numbers_kept};
+ghost use Rattle.snap_runs.specs.Cutting.{AreOfWitness};
 ghost use Rattle.snap_runs.specs.Mapping.{IsMapped, MapsHistory};
+ghost use Rattle.snap_runs.specs.Shrinking.{IsWitnessOf};
 
-use crate::draw_witness::records_of;
+use crate::cut::{numbered_witness, records_of};
 use crate::table::table_of;
 use snap_check::{Judging, RunFault, workers_of};
-use snap_conditions::Tally;
 use snap_core::{Counted, History, Limit};
 use snap_csv::{ReadRefusal, read_records};
 use snap_index::Index;
 use snap_report::refusal_text;
 use snap_threads::Cutting;
 use snap_verdict::{Status, status_of};
-use snap_witness::{kept_calls, witness};
 use std::alloc::{AllocError, Global};
 use std::io::{Read, Write};
 use std::thread::Threads;
@@ -54,27 +51,25 @@ fn whole_map(
     table_of(alloc, &cut, &mine, index, records, &sources)
 }
 
-// The table of the witness of a history, which keeps the calls of these numbers.
+// The table of the witness of a history, whose calls have these numbers in the history.
 fn witness_map(
     alloc: Global,
+    left: &History,
+    numbers: &[u32],
     index: &Index<'_>,
-    tally: &Tally,
     records: &[u32],
-    kept: &[u32],
 ) -> Result<Vec<u8>, AllocError>
-    requires tally { tally.now ≡ tally_of (calls_of index.now) (views_of (calls_of index.now)) }
     requires each { length records.now ≡ length index.now }
-    requires kept { Some kept.now ≡ option_map (numbers_kept index.now) (first_fault (calls_of index.now)) }
+    requires not_atomic { IsAtomic (calls_of index.now) → ⊥ }
+    requires witness { IsWitnessOf index.now left.now.events }
+    requires numbers { AreOfWitness index.now left.now.events numbers.now }
     ensures { IfOk result (λ out. (status : SpecStatus) → HasStatus index.now status → MapsHistory index.now records.now status out.items) }
 {
     // what is known of the history that the index is of
     let _events = index.event_count();
-    let Some(left) = witness(alloc, index, tally)? else {
-        unreachable!()
-    };
     let mine = records_of(alloc, left.len())?;
-    let cut = Index::build(alloc, &left)?;
-    table_of(alloc, &cut, &mine, index, records, kept)
+    let cut = Index::build(alloc, left)?;
+    table_of(alloc, &cut, &mine, index, records, numbers)
 }
 
 // The status of a history, and the table of the calls of what it is cut down to.
@@ -92,8 +87,8 @@ fn mapped<J: Judging>(
     let index = Index::build(alloc, history)?;
     let (tally, _chain) = judging.tally_and_chain(alloc, &index, bytes)?;
     let status = status_of(&index, &tally);
-    let out = match kept_calls(alloc, &index, &tally)? {
-        Some(kept) => witness_map(alloc, &index, &tally, records, &kept)?,
+    let out = match numbered_witness(alloc, &index, &tally)? {
+        Some((left, numbers)) => witness_map(alloc, &left, &numbers, &index, records)?,
         None => whole_map(alloc, history, &index, records)?,
     };
     Ok((status, out))

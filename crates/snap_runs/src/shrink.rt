@@ -3,51 +3,17 @@ ghost use Rattle.std.specs.Prelude.{◌≡◌, IfOk};
 ghost use Rattle.snap_core.specs.Counting.{failures_in, inner_of};
 ghost use Rattle.snap_check.specs.Runs.{JudgeCounts, JudgesBy, RunCounts, WroteBy};
 ghost use Rattle.snap_format.specs.Layout.{history_text};
-ghost use Rattle.snap_runs.specs.Shrinking.{IsCutTo, IsFirstWitness, IsShrunk};
+ghost use Rattle.snap_runs.specs.Shrinking.{IsShrunk};
 
+use crate::cut::cut;
 use snap_check::{Judging, Reading, RunFault, read_in, workers_of};
 use snap_core::{Counted, History, Limit};
 use snap_csv::write_history;
-use snap_index::Index;
 use snap_threads::Cutting;
-use snap_verdict::{Status, status_of};
-use snap_witness::witness;
+use snap_verdict::Status;
 use std::alloc::{AllocError, Global};
 use std::io::{Read, Write};
 use std::thread::Threads;
-
-// The status of a history, and the witness of its first fault, if it has one.
-fn first_witness<J: Judging>(
-    judging: &J,
-    alloc: Global,
-    history: &History,
-    bytes: usize,
-) -> Result<(Status, Option<History>), AllocError>
-    requires ready { J.ready }
-    ensures { IfOk result (λ answer. IsFirstWitness history.now.events answer.0 answer.1) }
-{
-    let index = Index::build(alloc, history)?;
-    let (tally, _chain) = judging.tally_and_chain(alloc, &index, bytes)?;
-    Ok((status_of(&index, &tally), witness(alloc, &index, &tally)?))
-}
-
-// The status of the history of a text with this number of bytes, and what it is cut down to. That is the witness of its first fault, or
-// the history itself if it has none.
-fn cut<J: Judging>(
-    judging: &J,
-    alloc: Global,
-    history: History,
-    bytes: usize,
-) -> Result<(Status, History), AllocError>
-    requires ready { J.ready }
-    ensures { IfOk result (λ answer. IsCutTo history.events answer.0 answer.1.events) }
-{
-    let (status, found) = first_witness(judging, alloc, &history, bytes)?;
-    match found {
-        Some(witness) => Ok((status, witness)),
-        None => Ok((status, history)),
-    }
-}
 
 fn text_of(alloc: Global, history: &History) -> Result<Vec<u8>, AllocError>
     ensures { IfOk result (λ text. text.items ≡ history_text history.now.events) }
@@ -75,7 +41,7 @@ pub fn shrink_input<J: Judging, R: Read>(
     let mut room = Vec::new(alloc);
     match read_in(judging, alloc, reader, &mut room, limit)? {
         Reading::History(history) => {
-            let (status, left) = cut(judging, alloc, history, room.len())?;
+            let (status, left, _) = cut(judging, alloc, history, room.len())?;
             let text = text_of(alloc, &left)?;
             Ok((status, text))
         }

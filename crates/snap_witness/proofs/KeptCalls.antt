@@ -1,6 +1,5 @@
 -- The calls of a witness are what is left of the calls that it keeps, one for one.
 use Rattle.std.proofs.Common.{◌≡◌, ◌⊎◌, ℕ, suc, Bool, true, false, cond, List, [], ◌∷◌, length, refl, sym, ap, ◌∙◌, subst, inl, inr, arith}
-use Rattle.std.proofs.lemmas.List.{length-map}
 use Rattle.snap_core.specs.declared.event.Event.{Event}
 use Rattle.snap_core.specs.Events.{IsBegin, IsBoundedHistory}
 use Rattle.snap_core.specs.Calls.{Call, calls_from, calls_of}
@@ -15,7 +14,7 @@ use Rattle.snap_theory.proofs.FaultWitnesses.{are_witnesses}
 use Rattle.snap_theory.proofs.Kept.{Whole, begin_kept, calls_begin, calls_end, end_kept, from_kept, from_left, kept_to, kind, rank_kept, rank_left, whole_begin, whole_end}
 use Rattle.snap_theory.proofs.Ordered.{history_is_ordered}
 use Rattle.snap_theory.proofs.Witnesses.{are_chosen}
-use Rattle.snap_witness.specs.Keeping.{as_kept, calls_begun, calls_kept, numbers_kept}
+use Rattle.snap_witness.specs.Keeping.{as_kept, calls_begun, calls_kept}
 
 listed_kept : (keeps : ℕ → Bool) (numbers : ℕ → ℕ) (place n m r : ℕ) (es : List Event) → r ≡ rank keeps place → Whole keeps (calls_from n place es) →
     calls_from m r (kept_from keeps numbers place es) ≡ as_kept keeps numbers m (calls_begun keeps (calls_from n place es))
@@ -82,12 +81,6 @@ calls_are_kept es h f i =
     let choice : IsChoice (is_place_of (fault_calls es f)) (numbers_of (fault_updates f)) (calls_of es) = chosen_is_choice es o (fault_calls es f) (numbers_of (fault_updates f)) chosen in
     listed_kept (is_place_of (fault_calls es f)) (numbers_of (fault_updates f)) 0 0 0 0 es refl (λ c j i e. choice.whole c j (Contains-from_In (calls_of es) c i) e)
 
-kept_count : (keeps : ℕ → Bool) (numbers : ℕ → ℕ) (n : ℕ) (cs : List Call) → length (as_kept keeps numbers n cs) ≡ length cs
-kept_count keeps numbers n [] = refl
-kept_count keeps numbers n (c ∷ cs) = ap suc (kept_count keeps numbers (suc n) cs)
-
--- as many calls as numbers
-pub same_count : (es : List Event) → IsBoundedHistory es → (f : Fault) → IsFaultOf (calls_of es) f → length (numbers_kept es f) ≡ length (calls_of (fault_witness es f))
-same_count es h f i =
-    length-map (calls_kept es f) (λ c. c.number) ∙ sym (kept_count (is_place_of (fault_calls es f)) (numbers_of (fault_updates f)) 0 (calls_kept es f))
-    ∙ sym (ap length (calls_are_kept es h f i))
+pub length-as_kept : (keeps : ℕ → Bool) (numbers : ℕ → ℕ) (n : ℕ) (cs : List Call) → length (as_kept keeps numbers n cs) ≡ length cs
+length-as_kept keeps numbers n [] = refl
+length-as_kept keeps numbers n (c ∷ cs) = ap suc (length-as_kept keeps numbers (suc n) cs)

@@ -1,11 +1,11 @@
 //! The checks of one text and of several files. Each is a part over readers and writers, and a start of that part on the system.
-ghost use Rattle.std.specs.Prelude.{◌≡◌, ◌≢◌, IfOk, false, true};
+ghost use Rattle.std.specs.Prelude.{◌≡◌, ◌≢◌, IfErr, IfOk, false, true};
 ghost use Rattle.snap_check.specs.Options.{IsReportWith};
-ghost use Rattle.snap_check.specs.Runs.{WroteBy};
+ghost use Rattle.snap_check.specs.Runs.{RunCounts, WroteBy};
 ghost use Rattle.snap_core.specs.Counting.{failures_in, inner_of};
-ghost use Rattle.snap_files.specs.Files.{ChecksAll};
-ghost use Rattle.snap_files.specs.Suites.{WritesSuite};
-ghost use Rattle.snap_files.specs.Sums.{SumsAll};
+ghost use Rattle.snap_files.specs.Files.{ChecksAll, ChecksSome};
+ghost use Rattle.snap_files.specs.Suites.{SomeOfSuite, WritesSuite};
+ghost use Rattle.snap_files.specs.Sums.{SumsAll, SumsSome};
 ghost use Rattle.snap_words.specs.declared.format.Format.TheVariants as asks;
 ghost use Rattle.snapjudge.specs.Checks.{check_of, options_of};
 
@@ -84,6 +84,12 @@ fn answer_all<Rt: Threads + Sync, O: Opener, W: Write, E: Write>(
         (E.contents (inner_of errors.old)) (E.contents (inner_of errors.new)) (failures_in errors.old) (failures_in errors.new)) }
     ensures each { asked.summary ≡ false → asked.format ≢ asks.Junit → IfOk result (ChecksAll (O.opens opener.now) (options_of limit asked) names.now (W.contents (inner_of writer.old)) (W.contents (inner_of writer.new))
         (E.contents (inner_of errors.old)) (E.contents (inner_of errors.new)) (failures_in errors.old) (failures_in errors.new)) }
+    ensures some_sums { asked.summary ≡ true → IfErr result (λ _. SumsSome (O.opens opener.now) (check_of limit asked) names.now (W.contents (inner_of writer.old)) (W.contents (inner_of writer.new))) }
+    ensures some_of_document { asked.summary ≡ false → asked.format ≡ asks.Junit
+        → IfErr result (λ _. SomeOfSuite (O.opens opener.now) (check_of limit asked) names.now (W.contents (inner_of writer.old)) (W.contents (inner_of writer.new))) }
+    ensures some { asked.summary ≡ false → asked.format ≢ asks.Junit
+        → IfErr result (λ _. ChecksSome (O.opens opener.now) (options_of limit asked) names.now (W.contents (inner_of writer.old)) (W.contents (inner_of writer.new))) }
+    ensures counts { RunCounts 0 0 (failures_in writer.old) (failures_in writer.new) result }
 {
     let options = file_options(limit, asked);
     let check = options.check;

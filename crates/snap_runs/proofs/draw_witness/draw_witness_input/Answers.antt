@@ -1,7 +1,7 @@
 use Rattle.std.proofs.Common.{inl, inr, subst, sym}
 use Rattle.snap_core.specs.Counting.{inner_of}
 use Rattle.snap_check.proofs.Runs.{from_history, from_refusal}
-use Rattle.snap_runs.specs.WitnessDrawing.{AreBeside}
+use Rattle.snap_runs.specs.Cutting.{AreBeside}
 use Rattle.snap_runs.proofs.draw_witness.draw_witness_input.Goals as goal
 
 pub returns-in-History-clause-answer : goal.returns-in-History-clause-answer

@@ -10,7 +10,7 @@ returns-in-History-clause-answer g c =
       events = c.in-History.history.events;
       left = c.in_ok-status-in-History.left.events;
       history = reads;
-      cut = c.in_ok-status-in-History.ensures;
+      cut = c.in_ok-status-in-History.ensures.cut;
       writes = c.in_ok-text-in-History.ensures;
     }))
 

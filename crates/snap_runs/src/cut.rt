@@ -1,0 +1,81 @@
+//! What a history is cut down to, and the numbers that the calls of that have in the history.
+ghost use Rattle.std.specs.Prelude.{◌≡◌, ◌≤◌, IfOk};
+ghost use Rattle.std.specs.List.{range_with_len};
+ghost use Rattle.snap_core.specs.Calls.{calls_of, views_of};
+ghost use Rattle.snap_core.specs.Events.{event_cap};
+ghost use Rattle.snap_conditions.specs.Tally.{tally_of};
+ghost use Rattle.snap_verdict.specs.Verdicts.{HasStatus};
+ghost use Rattle.snap_runs.specs.Cutting.{AreBeside, IsNumbered};
+ghost use Rattle.snap_runs.specs.Shrinking.{IsCutTo};
+
+use snap_check::Judging;
+use snap_conditions::Tally;
+use snap_core::History;
+use snap_index::Index;
+use snap_verdict::{Status, status_of};
+use snap_witness::{kept_calls, witness};
+use std::alloc::{AllocError, Global};
+
+// The numbers of the records of this number of events, one after the other under the header.
+pub(crate) fn records_of(alloc: Global, count: usize) -> Result<Vec<u32>, AllocError>
+    requires { count ≤ event_cap }
+    ensures { IfOk result (λ records. records.items ≡ range_with_len 2 count) }
+{
+    (2..count as u32 + 2).collect(alloc)
+}
+
+// The witness of the first fault of a history, and the numbers that the calls of the witness have in the history; none if it is atomic.
+pub(crate) fn numbered_witness(
+    alloc: Global,
+    index: &Index<'_>,
+    tally: &Tally,
+) -> Result<Option<(History, Vec<u32>)>, AllocError>
+    requires tally { tally.now ≡ tally_of (calls_of index.now) (views_of (calls_of index.now)) }
+    ensures { IfOk result (IsNumbered index.now) }
+{
+    // what is known of the history that the index is of
+    let _events = index.event_count();
+    let Some(left) = witness(alloc, index, tally)? else {
+        return Ok(None);
+    };
+    let Some(numbers) = kept_calls(alloc, index, tally)? else {
+        unreachable!()
+    };
+    Ok(Some((left, numbers)))
+}
+
+// The status of the history of a text with this number of bytes, and its witness with the numbers of its calls.
+fn judged_witness<J: Judging>(
+    judging: &J,
+    alloc: Global,
+    history: &History,
+    bytes: usize,
+) -> Result<(Status, Option<(History, Vec<u32>)>), AllocError>
+    requires ready { J.ready }
+    ensures status { IfOk result (λ answer. HasStatus history.now.events answer.0) }
+    ensures witness { IfOk result (λ answer. IsNumbered history.now.events answer.1) }
+{
+    let index = Index::build(alloc, history)?;
+    let (tally, _chain) = judging.tally_and_chain(alloc, &index, bytes)?;
+    let found = numbered_witness(alloc, &index, &tally)?;
+    Ok((status_of(&index, &tally), found))
+}
+
+// The status of the history of a text with this number of bytes, what it is cut down to, and the numbers that the calls of that have in
+// the history. There are none if it is atomic.
+pub(crate) fn cut<J: Judging>(
+    judging: &J,
+    alloc: Global,
+    history: History,
+    bytes: usize,
+) -> Result<(Status, History, Vec<u32>), AllocError>
+    requires ready { J.ready }
+    ensures cut { IfOk result (λ answer. IsCutTo history.events answer.0 answer.1.events) }
+    ensures beside { IfOk result (λ answer. AreBeside history.events answer.1.events answer.2.items) }
+{
+    let (status, found) = judged_witness(judging, alloc, &history, bytes)?;
+    match found {
+        Some((left, numbers)) => Ok((status, left, numbers)),
+        None => Ok((status, history, Vec::new(alloc))),
+    }
+}
