@@ -11,7 +11,7 @@ use Rattle.csv.specs.declared.reader.Reader.{Reader}
 use Rattle.snap_text.specs.Fields.{Fields}
 use Rattle.snap_csv.specs.inside.Rows.{Stands}
 use Rattle.snap_format.specs.Records.{record_at}
-use Rattle.snap_rows.proofs.ReadFacts.{at_drop}
+use Rattle.snap_format.proofs.ReadFacts.{at_drop}
 
 -- ---- records
 

@@ -10,8 +10,8 @@ use Rattle.snap_format.specs.Stamps.{stamped_row}
 use Rattle.snap_format.specs.declared.refusal.ReadRefusal.{ReadRefusal}
 use Rattle.snap_format.specs.declared.refusal.ReadRefusal.TheVariants as refusals
 use Rattle.snap_csv.specs.OneLine.{AnswersLine, AnswersStamped, HasFirst}
-use Rattle.snap_rows.specs.Taking.{FailsFields}
-use Rattle.snap_rows.proofs.ReadFacts.{event_is}
+use Rattle.snap_format.specs.Taking.{FailsFields}
+use Rattle.snap_format.proofs.ReadFacts.{event_is}
 
 -- whether another record is after one
 pub only_if : (more : Bool) (later : List Fields) (Next : Type 0) → (Next → later ≢ []) → MatchBool more Next (later ≡ []) → IsTrue (not more) ↔ (later ≡ [])

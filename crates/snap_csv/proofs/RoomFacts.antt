@@ -8,7 +8,7 @@ use Rattle.snap_format.specs.declared.refusal.ReadRefusal.{ReadRefusal}
 use Rattle.snap_format.specs.declared.refusal.ReadRefusal.TheVariants as refusals
 use Rattle.snap_format.specs.Rows.{rows_of}
 use Rattle.snap_format.specs.Texts.{bytes_within}
-use Rattle.snap_rows.specs.Taking.{AnswersRows, RefusesRows}
+use Rattle.snap_format.specs.Taking.{AnswersRows, RefusesRows}
 use Rattle.snap_csv.specs.Answers.{AnswersRecords, AnswersText, Counts, Leaves, RefusalCounts, RefusalLeaves, RefusesText}
 use Rattle.snap_csv.specs.inside.Rows.{AnswersListed}
 

@@ -4,7 +4,7 @@ ghost use Rattle.csv.specs.Records.{field_at, fields_of};
 ghost use Rattle.snap_format.specs.Layout.{is_header_row, is_stamped_header_row};
 
 use csv::ByteRecord;
-use snap_rows::{are_header, are_stamped_header};
+use snap_format::{are_header, are_stamped_header};
 
 // The field at a place that a record has, counted from 0.
 #[inline(always)]

@@ -10,9 +10,8 @@ use crate::fields::{four_fields, is_header};
 use crate::rows::{next_row, reader_of};
 use csv::{ByteRecord, Reader};
 use snap_core::Event;
-use snap_format::ReadRefusal;
+use snap_format::{ReadRefusal, event_of_record};
 use snap_plain::plain_event;
-use snap_rows::event_of_record;
 use snap_text::{Known, TextFault};
 use std::alloc::{AllocError, Global};
 

@@ -9,7 +9,7 @@ ghost use Rattle.snap_csv.specs.inside.Rows.{AnswersListed, Stands};
 ghost use Rattle.snap_format.specs.Records.{record_at};
 ghost use Rattle.snap_format.specs.Rows.{rows_of};
 ghost use Rattle.snap_plain.specs.Lines.{IsPlain};
-ghost use Rattle.snap_rows.specs.Taking.{numbers_kept};
+ghost use Rattle.snap_format.specs.Taking.{numbers_kept};
 ghost use Rattle.snap_text.specs.Fields.{Fields};
 
 use crate::intake::take_in;

@@ -2,15 +2,14 @@
 ghost use Rattle.std.specs.Prelude.{◌≡◌, [], List};
 ghost use Rattle.csv.specs.Records.{fields_of};
 ghost use Rattle.snap_csv.specs.inside.Rows.{Stands};
-ghost use Rattle.snap_rows.specs.Stamping.{AnswersStamps, ReadsStamped, TakesStamped};
+ghost use Rattle.snap_format.specs.Stamping.{AnswersStamps, ReadsStamped, TakesStamped};
 ghost use Rattle.snap_text.specs.Fields.{Fields};
 
 use crate::fields::five_fields;
 use crate::rows::next_row;
 use csv::{ByteRecord, Reader};
 use snap_core::{History, Limit};
-use snap_format::{ReadRefusal, Stamped};
-use snap_rows::{history_by_stamps, row_limit, take_stamped};
+use snap_format::{ReadRefusal, Stamped, history_by_stamps, row_limit, take_stamped};
 use snap_text::{Known, TextFault};
 use std::alloc::Global;
 

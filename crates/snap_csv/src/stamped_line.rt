@@ -6,9 +6,8 @@ use crate::fields::{five_fields, is_stamped_header};
 use crate::line::only_row;
 use csv::ByteRecord;
 use snap_core::Event;
-use snap_format::ReadRefusal;
+use snap_format::{ReadRefusal, stamped_of_record};
 use snap_plain::plain_stamped;
-use snap_rows::stamped_of_record;
 use snap_text::{Known, TextFault};
 use std::alloc::{AllocError, Global};
 

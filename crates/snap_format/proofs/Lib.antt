@@ -8,3 +8,6 @@ pub mod LengthFacts
 pub mod RecordFacts
 pub mod Decided
 pub mod Histories
+pub mod ReadFacts
+pub mod StampFacts
+pub mod RepeatFacts

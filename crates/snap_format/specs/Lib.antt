@@ -5,3 +5,5 @@ pub mod Stamps
 pub mod Texts
 pub mod Records
 pub mod Laws
+pub mod Taking
+pub mod Stamping

@@ -6,7 +6,7 @@ use Rattle.snap_core.specs.declared.event.Event.{Event}
 use Rattle.snap_text.specs.Fields.{Fields, row_event}
 use Rattle.snap_format.specs.declared.refusal.ReadRefusal.{ReadRefusal}
 use Rattle.snap_format.specs.Layout.{is_header_row}
-use Rattle.snap_rows.specs.Taking.{Midway, RefusesRows, TakesRow}
+use Rattle.snap_format.specs.Taking.{Midway, RefusesRows, TakesRow}
 use Rattle.snap_plain.specs.declared.pieces.Piece.{Piece}
 use Rattle.snap_plain.specs.declared.ahead.Ahead.{Ahead}
 use Rattle.snap_plain.specs.declared.ahead.Stop.{Stop}
@@ -15,7 +15,7 @@ use Rattle.snap_plain.specs.Ahead.{ArePieces, IsEndOfLine, SpellsNone, StopsFor}
 use Rattle.snap_plain.specs.Lines.{BeginsLine, BeginsLines, BeginsOtherwise, HasRows, IsRest, SpellsAll, SpellsFirst, spells_event}
 use Rattle.snap_plain.specs.Turns.{HasTaken}
 use Rattle.snap_plain.proofs.PlainFacts.{rest_of_rest}
-use Rattle.snap_rows.proofs.ReadFacts.{begun, more, stopped}
+use Rattle.snap_format.proofs.ReadFacts.{begun, more, stopped}
 
 pub whole : (text : List ℕ) → IsRest text text
 whole text = ([], refl)

@@ -12,7 +12,7 @@ use Rattle.snap_text.specs.Fields.{Fields, row_event}
 use Rattle.snap_format.specs.Rows.{rows_of}
 use Rattle.snap_text.specs.declared.fault.TextFault.TheVariants as faults
 use Rattle.snap_format.specs.Texts.{RowsFault}
-use Rattle.snap_rows.proofs.ReadFacts.{no_header, no_rows}
+use Rattle.snap_format.proofs.ReadFacts.{no_header, no_rows}
 use Rattle.snap_format.proofs.RecordSteps.{records_stop}
 use Rattle.snap_plain.proofs.PlainFacts.{row_of_fields, row_of_others}
 

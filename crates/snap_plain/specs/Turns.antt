@@ -4,7 +4,7 @@ use Rattle.snap_core.specs.declared.event.Event.{Event}
 use Rattle.snap_format.specs.declared.refusal.ReadRefusal.{ReadRefusal}
 use Rattle.std.proofs.Common.{Bor}
 use Rattle.snap_text.specs.Fields.{Fields}
-use Rattle.snap_rows.specs.Taking.{Midway, RefusesRows}
+use Rattle.snap_format.specs.Taking.{Midway, RefusesRows}
 use Rattle.snap_plain.specs.Ahead.{IsAhead}
 use Rattle.snap_plain.specs.declared.beside.Turns.{Turns}
 use Rattle.snap_plain.specs.Lines.{HasRows, IsRest}

@@ -9,8 +9,7 @@ use crate::fields::four_first;
 use crate::front::behind_newlines;
 use crate::pieces::Piece;
 use snap_core::{Event, History, Limit};
-use snap_format::ReadRefusal;
-use snap_rows::{row_limit, take_event};
+use snap_format::{ReadRefusal, row_limit, take_event};
 use snap_text::Known;
 use std::alloc::{AllocError, Global};
 

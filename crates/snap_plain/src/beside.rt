@@ -5,7 +5,7 @@ ghost use Rattle.snap_plain.specs.Ahead.{IsAhead, IsPieceOf};
 ghost use Rattle.snap_plain.specs.Lines.{HasLines, HasRows};
 ghost use Rattle.snap_plain.specs.Sharing.{IsDone, IsNewClaim, IsNewJob};
 ghost use Rattle.snap_plain.specs.Turns.{HasTaken, TakesOn, TakesTurns};
-ghost use Rattle.snap_rows.specs.Taking.{AnswersNumbered};
+ghost use Rattle.snap_format.specs.Taking.{AnswersNumbered};
 ghost use Rattle.snap_text.specs.Fields.{Fields};
 ghost use Rattle.snap_threads.specs.Claiming.{IsClaimOf, IsFinished};
 ghost use Rattle.snap_threads.specs.declared.cutting.TheConstants.{PIECE_LIMIT};

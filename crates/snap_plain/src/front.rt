@@ -6,7 +6,7 @@ ghost use Rattle.snap_plain.specs.Lines.{BeginsOtherwise, BeginsWith, HasRows, I
 ghost use Rattle.snap_text.specs.Fields.{Fields};
 
 use crate::fields::{LANES, five_first, four_first};
-use snap_rows::{are_header, are_stamped_header};
+use snap_format::{are_header, are_stamped_header};
 use std::simd::prelude::*;
 
 const ORDER_MARK: &[u8] = b"\xEF\xBB\xBF";

@@ -10,7 +10,7 @@ use crate::fields::five_first;
 use crate::front::{behind_newlines, behind_order_mark};
 use crate::lines::is_plain;
 use snap_core::Event;
-use snap_rows::stamped_of_record;
+use snap_format::stamped_of_record;
 use snap_text::Known;
 use std::alloc::Global;
 

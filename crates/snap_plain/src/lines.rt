@@ -4,8 +4,8 @@ ghost use Rattle.snap_format.specs.Layout.{is_header_row};
 ghost use Rattle.snap_format.specs.Rows.{rows_of};
 ghost use Rattle.snap_plain.specs.Lines.{HasLines, HasRows, IsPlain};
 ghost use Rattle.snap_plain.specs.Turns.{HasTaken, TakesOn};
-ghost use Rattle.snap_rows.specs.Stamping.{AnswersStamps, ReadsStamped};
-ghost use Rattle.snap_rows.specs.Taking.{AnswersNumbered};
+ghost use Rattle.snap_format.specs.Stamping.{AnswersStamps, ReadsStamped};
+ghost use Rattle.snap_format.specs.Taking.{AnswersNumbered};
 ghost use Rattle.snap_text.specs.Fields.{Fields};
 
 use crate::fields::{five_first, four_first};
@@ -14,8 +14,7 @@ use crate::front::{
 };
 use memchr::memchr2;
 use snap_core::{History, Limit};
-use snap_format::{ReadRefusal, Stamped};
-use snap_rows::{history_by_stamps, row_limit, take_fields, take_stamped};
+use snap_format::{ReadRefusal, Stamped, history_by_stamps, row_limit, take_fields, take_stamped};
 use snap_text::{Known, TextFault};
 use std::alloc::Global;
 

@@ -10,7 +10,7 @@ use Rattle.snap_core.specs.Limited.{LimitedEvents}
 use Rattle.snap_text.specs.Fields.{Fields}
 use Rattle.snap_format.specs.declared.refusal.ReadRefusal.{ReadRefusal}
 use Rattle.snap_format.specs.Records.{RowsNumbered}
-use Rattle.snap_rows.specs.Taking.{AnswersRows, RefusesRows}
+use Rattle.snap_format.specs.Taking.{AnswersRows, RefusesRows}
 
 -- a reader over memory has these records left
 pub record Stands (r : Reader (Bor (List ℕ))) (rows : List Fields) : Type 0 where

@@ -1,7 +1,7 @@
 use Rattle.std.proofs.Common.{sym, ◌∙◌}
 use Rattle.std.proofs.lemmas.Result.{err_from_is_err_and}
 use Rattle.csv.specs.Records.{fields_of}
-use Rattle.snap_rows.proofs.ReadFacts.{no_header, no_rows, with_stamps, without_stamps}
+use Rattle.snap_format.proofs.ReadFacts.{no_header, no_rows, with_stamps, without_stamps}
 use Rattle.snap_csv.proofs.read.history_by_rows.Goals as goal
 use Rattle.snap_csv.proofs.read.history_by_rows.Goals.{then-branch+else-is_header+else-is_stamped_header, else-branch}
 

@@ -1,7 +1,7 @@
 use Rattle.std.proofs.Common.{◌∷◌, refl}
 use Rattle.std.proofs.lemmas.Result.{err_from_is_err_and}
 use Rattle.snap_csv.specs.inside.Rows.{Stands}
-use Rattle.snap_rows.proofs.ReadFacts.{begun}
+use Rattle.snap_format.proofs.ReadFacts.{begun}
 use Rattle.snap_csv.proofs.read.history_under_header.Goals as goal
 
 pub returns-in_err-take_rows : goal.returns-in_err-take_rows

@@ -3,7 +3,7 @@ use Rattle.std.proofs.lemmas.List.{length-append}
 use Rattle.std.proofs.lemmas.Result.{err_from_is_err_and}
 use Rattle.csv.specs.Records.{fields_of}
 use Rattle.snap_csv.specs.inside.Rows.{Stands}
-use Rattle.snap_rows.proofs.ReadFacts.{done, has_room, more, stopped}
+use Rattle.snap_format.proofs.ReadFacts.{done, has_room, more, stopped}
 use Rattle.snap_csv.proofs.read.take_rows.Goals as goal
 
 pub loop-i-init : goal.loop-i-init

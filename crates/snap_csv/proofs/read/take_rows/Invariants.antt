@@ -1,7 +1,7 @@
 use Rattle.std.proofs.Common.{◌≡◌, ◌≤◌, List, length}
 use Rattle.snap_text.specs.Fields.{Fields}
 use Rattle.snap_csv.specs.inside.Rows.{Stands}
-use Rattle.snap_rows.specs.Taking.{Midway}
+use Rattle.snap_format.specs.Taking.{Midway}
 use Rattle.snap_csv.proofs.read.take_rows.Given as goal
 
 abbrev pub invariant-loop-i : goal.invariant-loop-i

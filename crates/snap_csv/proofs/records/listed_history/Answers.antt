@@ -1,5 +1,5 @@
 use Rattle.std.proofs.Common.{◌∙◌, ap, length}
-use Rattle.snap_rows.specs.Taking.{numbers_kept}
+use Rattle.snap_format.specs.Taking.{numbers_kept}
 use Rattle.snap_format.specs.Rows.{rows_of}
 use Rattle.snap_format.proofs.RecordFacts.{rows_spell}
 use Rattle.snap_csv.proofs.records.listed_history.Goals as goal

@@ -2,7 +2,7 @@ use Rattle.std.proofs.Common.{◌+◌, ap, arith, length}
 use Rattle.std.proofs.lemmas.Result.{err_from_is_err_and}
 use Rattle.csv.specs.Records.{fields_of}
 use Rattle.snap_csv.specs.inside.Rows.{Stands}
-use Rattle.snap_rows.proofs.StampFacts.{begun, done, more, one_longer, stopped}
+use Rattle.snap_format.proofs.StampFacts.{begun, done, more, one_longer, stopped}
 use Rattle.snap_csv.proofs.stamped.read_stamped.Goals as goal
 
 pub loop-i-init : goal.loop-i-init

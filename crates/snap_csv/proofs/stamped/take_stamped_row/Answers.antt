@@ -1,6 +1,6 @@
 use Rattle.std.proofs.Common.{refl}
 use Rattle.csv.specs.Records.{fields_of}
-use Rattle.snap_rows.proofs.StampFacts.{row_short}
+use Rattle.snap_format.proofs.StampFacts.{row_short}
 use Rattle.snap_csv.proofs.stamped.take_stamped_row.Goals as goal
 
 pub returns-in_default : goal.returns-in_default

@@ -4,7 +4,7 @@ use Rattle.std.proofs.lemmas.Result.{IfOk-at_ok}
 use Rattle.snap_plain.specs.Lines.{spells_event}
 use Rattle.snap_plain.proofs.FrontFacts.{begins_with_none, begins_otherwise, begins_otherwise_behind, begins_with_others, empty_text, short_spells_none}
 use Rattle.snap_plain.proofs.PlainFacts.{rest_of_rest, row_of_fields}
-use Rattle.snap_rows.proofs.ReadFacts.{event_is}
+use Rattle.snap_format.proofs.ReadFacts.{event_is}
 use Rattle.snap_plain.proofs.ahead.event_first.Goals as goal
 
 pub returns-then-is_empty-clause-none : goal.returns-then-is_empty-clause-none

@@ -2,7 +2,7 @@ use Rattle.std.proofs.Common.{◌≡◌, ◌∙◌, [], ap, arith, length, subst
 use Rattle.std.proofs.lemmas.List.{nil_from_length}
 use Rattle.std.proofs.lemmas.Result.{err_from_is_err_and}
 use Rattle.std.specs.Vec.Iter.{into_iter_items}
-use Rattle.snap_rows.specs.Taking.{Midway}
+use Rattle.snap_format.specs.Taking.{Midway}
 use Rattle.snap_plain.specs.Lines.{HasRows, SpellsAll}
 use Rattle.snap_plain.proofs.AheadFacts.{one_refused, one_taken}
 use Rattle.snap_plain.proofs.ahead.take_all.Goals as goal

@@ -1,6 +1,6 @@
 use Rattle.std.proofs.Common.{◌≡◌, ℕ, List, length}
 use Rattle.std.specs.Vec.Iter.{into_iter_items, into_iter_len}
-use Rattle.snap_rows.specs.Taking.{Midway}
+use Rattle.snap_format.specs.Taking.{Midway}
 use Rattle.snap_plain.specs.Lines.{HasRows, SpellsAll}
 use Rattle.snap_text.specs.Fields.{Fields}
 use Rattle.snap_plain.proofs.ahead.take_all.Given as goal

@@ -9,7 +9,7 @@ use Rattle.snap_format.specs.Stamps.{stamped_row}
 use Rattle.snap_plain.specs.Lines.{HasRows}
 use Rattle.snap_plain.proofs.FrontFacts.{empty_text, no_line}
 use Rattle.snap_plain.proofs.PlainFacts.{row_of_fields}
-use Rattle.snap_rows.specs.Taking.{GivesFields}
+use Rattle.snap_format.specs.Taking.{GivesFields}
 use Rattle.snap_text.specs.Fields.{Fields}
 use Rattle.snap_plain.proofs.line.plain_stamped.Goals as goal
 

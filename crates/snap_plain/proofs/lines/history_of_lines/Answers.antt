@@ -1,5 +1,5 @@
 use Rattle.std.proofs.lemmas.Result.{err_from_is_err_and}
-use Rattle.snap_rows.proofs.ReadFacts.{with_stamps, without_stamps}
+use Rattle.snap_format.proofs.ReadFacts.{with_stamps, without_stamps}
 use Rattle.snap_plain.proofs.lines.history_of_lines.Goals as goal
 
 pub returns-in_err-history-in-Stamped : goal.returns-in_err-history-in-Stamped

@@ -6,7 +6,7 @@ use Rattle.snap_format.specs.declared.refusal.ReadRefusal.TheVariants as refusal
 use Rattle.snap_plain.specs.Lines.{HasRows}
 use Rattle.snap_plain.proofs.FrontFacts.{no_line}
 use Rattle.snap_plain.proofs.PlainFacts.{row_of_fields, row_of_others}
-use Rattle.snap_rows.proofs.StampFacts.{begun, done, more, one_longer, row_short, stopped}
+use Rattle.snap_format.proofs.StampFacts.{begun, done, more, one_longer, row_short, stopped}
 use Rattle.snap_plain.proofs.lines.read_stamped_lines.Goals as goal
 
 pub loop-i-init : goal.loop-i-init

@@ -1,7 +1,7 @@
 use Rattle.std.proofs.Common.{◌≡◌, ◌≤◌, List, length}
 use Rattle.snap_plain.specs.Lines.{HasRows}
 use Rattle.snap_text.specs.Fields.{Fields}
-use Rattle.snap_rows.proofs.StampFacts.{MidStamped}
+use Rattle.snap_format.proofs.StampFacts.{MidStamped}
 use Rattle.snap_plain.proofs.lines.read_stamped_lines.Given as goal
 
 abbrev pub invariant-loop-i : goal.invariant-loop-i

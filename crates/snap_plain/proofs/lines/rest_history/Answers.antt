@@ -3,7 +3,7 @@ use Rattle.std.proofs.lemmas.List.{nil_from_length}
 use Rattle.std.proofs.lemmas.Result.{err_from_is_err_and}
 use Rattle.snap_plain.specs.Lines.{HasRows}
 use Rattle.snap_plain.proofs.FrontFacts.{no_line}
-use Rattle.snap_rows.proofs.ReadFacts.{done}
+use Rattle.snap_format.proofs.ReadFacts.{done}
 use Rattle.snap_plain.proofs.lines.rest_history.Goals as goal
 
 pub returns-in_err-take_lines : goal.returns-in_err-take_lines

@@ -3,11 +3,11 @@ use Rattle.std.proofs.lemmas.List.{length-append}
 use Rattle.std.proofs.lemmas.Result.{err_from_is_err_and}
 use Rattle.snap_text.specs.declared.fault.TextFault.TheVariants as faults
 use Rattle.snap_format.specs.declared.refusal.ReadRefusal.TheVariants as refusals
-use Rattle.snap_rows.specs.Taking.{Midway}
+use Rattle.snap_format.specs.Taking.{Midway}
 use Rattle.snap_plain.specs.Lines.{HasRows}
 use Rattle.snap_plain.proofs.AheadFacts.{left_as}
 use Rattle.snap_plain.proofs.PlainFacts.{rest_of_rest, row_of_fields, row_of_others}
-use Rattle.snap_rows.proofs.ReadFacts.{has_room, more, row_short, stopped}
+use Rattle.snap_format.proofs.ReadFacts.{has_room, more, row_short, stopped}
 use Rattle.snap_plain.proofs.lines.take_lines.Goals as goal
 
 pub each-init : goal.each-init

@@ -1,3 +1,0 @@
-pub mod ReadFacts
-pub mod StampFacts
-pub mod RepeatFacts
