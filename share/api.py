@@ -21,7 +21,6 @@ BELOW = {
     "snap_conditions": ["snap_views"],
     "snap_pairs": ["snap_threads"],
     "snap_record": ["snap_board"],
-    "snap_check": ["snap_verdict"],
 }
 BLOCK = re.compile(r"(?m)^```rust api=(\w+)\n(.*?)^```$", re.S)
 KINDS = ("struct", "enum", "trait")

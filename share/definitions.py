@@ -40,12 +40,12 @@ SHOWN = [
     (
         "2. What a report is",
         "`IsText` says which events a text spells, and `refusal_line` how its first fault is written: [FORMAT.md](FORMAT.md) has both in words.",
-        [("crates/snap_verdict/specs/Reports.antt", it) for it in ("IsRefused", "IsJudged", "IsReport")],
+        [("crates/snap_check/specs/Reports.antt", it) for it in ("IsRefused", "IsJudged", "IsReport")],
     ),
     (
         "3. What a verdict is",
         "This is the heart: three truth values, each tied to a definition below. `report_lines` lays them out.",
-        [("crates/snap_verdict/specs/Verdicts.antt", "IsVerdict")],
+        [("crates/snap_check/specs/Verdicts.antt", "IsVerdict")],
     ),
     (
         "4. Histories and calls",

@@ -1,9 +1,9 @@
 -- What a call from C answers and leaves in its caller's memory.
 use Rattle.std.specs.Prelude.{◌≡◌, ◌<◌, ◌≤◌, ◌++◌, ◌⊎◌, ℕ, List, length, drop, Option, Some, None}
 use Rattle.snap_core.specs.Limits.{IsLimit}
-use Rattle.snap_verdict.specs.declared.status.Status.{Status}
-use Rattle.snap_verdict.specs.Statuses.{code_of}
-use Rattle.snap_verdict.specs.Reports.{IsReport}
+use Rattle.snap_check.specs.declared.status.Status.{Status}
+use Rattle.snap_check.specs.Statuses.{code_of}
+use Rattle.snap_check.specs.Reports.{IsReport}
 use Rattle.snap_c.specs.declared.question.Question.{Question}
 use Rattle.snap_c.specs.Questions.{IsAnswerTo, IsCertain}
 

@@ -8,8 +8,8 @@ use Rattle.snap_draw.specs.declared.window.Window.{Window}
 use Rattle.snap_draw.specs.Window.{usual_lines, usual_page}
 use Rattle.snap_options.specs.declared.scheme.Scheme.TheVariants.{Light, Dark}
 use Rattle.snap_explain.specs.declared.view.Entries.TheVariants.{OfFault, Whole}
-use Rattle.snap_verdict.specs.declared.status.Status.{Status}
-use Rattle.snap_verdict.specs.Reports.{IsReport}
+use Rattle.snap_check.specs.declared.status.Status.{Status}
+use Rattle.snap_check.specs.Reports.{IsReport}
 use Rattle.snap_runs.specs.Telling.{IsTold}
 use Rattle.snap_runs.specs.Explaining.{IsExplained}
 use Rattle.snap_runs.specs.Mapping.{IsMapped}

@@ -6,7 +6,7 @@ ghost use Rattle.snap_core.specs.Counting.{inner_of};
 ghost use Rattle.snap_runs.specs.Telling.{IsTold};
 ghost use Rattle.snap_c.specs.Questions.{IsAnswerTo, calls_asked as spec_calls_asked, explanation_of as spec_explanation_of, most_calls as spec_most_calls, picture_asked as spec_picture_asked, place_asked as spec_place_asked, usual_window as spec_usual_window, window_asked as spec_window_asked};
 
-use snap_check::{Alone, RunFault, Status};
+use snap_check::{Alone, RunFault, Status, judge_text};
 use snap_core::{Counted, Limit};
 use snap_draw::{Place, Window};
 use snap_explain::Entries;
@@ -15,7 +15,6 @@ use snap_runs::{
     Explained, Lines, Page, Svg, draw_input, draw_witness_input, explain_input, map_input,
     shrink_input, stats_input, tell_input,
 };
-use snap_verdict::judge_text;
 use std::alloc::Global;
 
 /// What may be asked of a text. The answer to each is that of a command of the program.

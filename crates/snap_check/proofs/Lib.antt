@@ -1,2 +1,5 @@
 pub mod Runs
 mod Plain
+pub mod Verdicts
+pub mod Once
+pub mod Each

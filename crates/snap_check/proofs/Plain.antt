@@ -8,8 +8,8 @@ use Rattle.snap_check.specs.Options.{IsReportWith, IsWritten}
 use Rattle.snap_core.specs.Limits.{event_limit}
 use Rattle.snap_core.specs.Sending.{SendsFront}
 use Rattle.snap_check.specs.Runs.{FailedBy, WroteFront, WroteWhole}
-use Rattle.snap_verdict.specs.declared.status.Status.{Status}
-use Rattle.snap_verdict.specs.Reports.{IsReport}
+use Rattle.snap_check.specs.declared.status.Status.{Status}
+use Rattle.snap_check.specs.Reports.{IsReport}
 use Rattle.snap_check.proofs.Runs.{with_text}
 
 pub report_plain : (options : CheckOptions) → options.quiet ≡ false → options.limit.events ≡ event_limit → (text : List ℕ) (status : Status) (out : List ℕ) → IsReportWith options text (Some status) out → IsReport event_limit text status out

@@ -11,10 +11,10 @@ use Rattle.snap_format.specs.Texts.{HasFault, IsText}
 use Rattle.snap_report.specs.Lines.{line_text}
 use Rattle.snap_report.specs.Refusals.{refusal_line}
 use Rattle.snap_check.specs.declared.fault.RunFault.TheVariants as faults
-use Rattle.snap_verdict.specs.declared.status.Status.{Status}
-use Rattle.snap_verdict.specs.declared.status.Status.TheVariants.{Refused}
-use Rattle.snap_verdict.specs.Verdicts.{IsVerdict}
-use Rattle.snap_verdict.specs.Reports.{IsRefused, IsReport}
+use Rattle.snap_check.specs.declared.status.Status.{Status}
+use Rattle.snap_check.specs.declared.status.Status.TheVariants.{Refused}
+use Rattle.snap_check.specs.Verdicts.{IsVerdict}
+use Rattle.snap_check.specs.Reports.{IsRefused, IsReport}
 use Rattle.snap_check.specs.declared.reading.Reading.{Reading}
 use Rattle.snap_check.specs.declared.reading.Reading.TheVariants.{History, Refusal}
 use Rattle.snap_check.specs.Runs.{Reads, WroteFront, WroteWhole}

@@ -3,9 +3,9 @@ use Rattle.std.specs.Prelude.{◌≡◌, ◌<◌, ◌≤◌, ◌⊎◌, ℕ, Boo
 use Rattle.snap_core.specs.declared.event.Event.{Event}
 use Rattle.snap_core.specs.Calls.{calls_of, views_of}
 use Rattle.snap_format.specs.Texts.{IsText}
-use Rattle.snap_verdict.specs.declared.status.Status.{Status}
-use Rattle.snap_verdict.specs.Reports.{IsRefused}
-use Rattle.snap_verdict.specs.Verdicts.{IsBriefVerdict, IsVerdict}
+use Rattle.snap_check.specs.declared.status.Status.{Status}
+use Rattle.snap_check.specs.Reports.{IsRefused}
+use Rattle.snap_check.specs.Verdicts.{IsBriefVerdict, IsVerdict}
 use Rattle.snap_check.specs.declared.options.CheckOptions.{CheckOptions}
 
 -- the status of a history and its report; if quiet, only the lines of the report's verdicts

@@ -10,9 +10,9 @@ use Rattle.snap_check.specs.declared.fault.RunFault.{RunFault}
 use Rattle.snap_check.specs.declared.fault.RunFault.TheVariants as faults
 use Rattle.snap_check.specs.declared.reading.Reading.{Reading}
 use Rattle.snap_check.specs.declared.reading.Reading.TheVariants.{History, Refusal}
-use Rattle.snap_verdict.specs.declared.status.Status.{Status}
-use Rattle.snap_verdict.specs.declared.status.Status.TheVariants.{Refused}
-use Rattle.snap_verdict.specs.Reports.{IsRefused, IsReport}
+use Rattle.snap_check.specs.declared.status.Status.{Status}
+use Rattle.snap_check.specs.declared.status.Status.TheVariants.{Refused}
+use Rattle.snap_check.specs.Reports.{IsRefused, IsReport}
 
 -- What a writer holds before and after a run, by the texts that may go out with an answer.
 

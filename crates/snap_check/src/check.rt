@@ -9,16 +9,17 @@ ghost use Rattle.snap_check.specs.Options.{IsReportWith, IsVerdictWith, IsWritte
 ghost use Rattle.snap_check.specs.Runs.{JudgeCounts, JudgesBy, RunCounts, Wrote, WroteBy};
 
 use crate::fault::RunFault;
+use crate::judge::{brief_verdict_of, verdict_of_chain};
 use crate::judging::Workers;
 use crate::options::CheckOptions;
 use crate::reading::{Reading, read_in};
+use crate::status::Status;
 use crate::workers::cutting_for;
 use snap_conditions::Tally;
 use snap_core::{Counted, Gate, History};
 use snap_index::Index;
 use snap_pairs::tally_and_chain;
 use snap_threads::Cutting;
-use snap_verdict::{Status, brief_verdict_of, verdict_of_chain};
 use snap_views::ViewChain;
 use std::alloc::{AllocError, Global};
 use std::io::{Read, Write};

@@ -11,6 +11,7 @@ ghost use Rattle.snap_theory.specs.Faults.{read_faults};
 ghost use Rattle.snap_theory.specs.Levels.{printed_order};
 ghost use Rattle.snap_views.specs.Chains.{IsViewChain};
 
+use crate::judge::{order_alone, order_by};
 use crate::workers::{SHARED_FROM, cutting_for};
 use snap_conditions::Tally;
 use snap_core::{Counted, History, Limit, OpenGate};
@@ -19,7 +20,6 @@ use snap_index::Index;
 use snap_pairs::tally_and_chain;
 use snap_tally::tally_and_chain_alone;
 use snap_threads::Cutting;
-use snap_verdict::{order_alone, order_by};
 use snap_views::ViewChain;
 use std::alloc::{AllocError, Global};
 use std::io::Read;

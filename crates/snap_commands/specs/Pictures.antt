@@ -8,7 +8,7 @@ use Rattle.snap_explain.specs.declared.view.Entries.TheVariants.{OfFault}
 use Rattle.snap_options.specs.declared.limits.TheConstants.{LINE_CALLS, MOST_CALLS}
 use Rattle.snap_runs.specs.Drawing.{IsDrawn}
 use Rattle.snap_runs.specs.Markups.{is_lines, is_page, is_svg}
-use Rattle.snap_verdict.specs.declared.status.Status.{Status}
+use Rattle.snap_check.specs.declared.status.Status.{Status}
 use Rattle.snap_words.specs.declared.drawing.Form.{Form}
 use Rattle.snap_words.specs.declared.drawing.Form.TheVariants.{Lines, Page, Svg}
 use Rattle.snap_words.specs.declared.drawing.Part.{Part}

@@ -8,7 +8,7 @@ ghost use Rattle.snap_runs.specs.Mapping.{IsMapped};
 ghost use Rattle.snap_runs.specs.Recordings.{IsRecorded, IsStampedRecording, WroteAs};
 ghost use Rattle.snap_runs.specs.Shrinking.{IsShrunk};
 ghost use Rattle.snap_runs.specs.Stats.{IsCounted};
-ghost use Rattle.snap_verdict.specs.Statuses.{code_of};
+ghost use Rattle.snap_check.specs.Statuses.{code_of};
 
 use crate::failure::Failure;
 use crate::files::open_only;

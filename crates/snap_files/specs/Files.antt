@@ -7,8 +7,8 @@ use Rattle.std.specs.Io.KnownBytes.{Appends}
 use Rattle.snap_core.specs.Sending.{SendsFront}
 use Rattle.snap_check.specs.declared.options.CheckOptions.{CheckOptions}
 use Rattle.snap_check.specs.Options.{IsReportWith}
-use Rattle.snap_verdict.specs.declared.status.Status.{Status}
-use Rattle.snap_verdict.specs.Statuses.{code_of}
+use Rattle.snap_check.specs.declared.status.Status.{Status}
+use Rattle.snap_check.specs.Statuses.{code_of}
 use Rattle.snap_explain.specs.TestCases.{ended_case}
 use Rattle.snap_explain.specs.declared.test_case.Ending.TheVariants.{Error}
 use Rattle.snap_json.specs.Objects.{trouble_json}

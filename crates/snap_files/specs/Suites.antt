@@ -4,7 +4,7 @@ use Rattle.std.specs.Global.{Vec}
 use Rattle.std.specs.Io.KnownBytes.{Appends}
 use Rattle.snap_core.specs.Sending.{SendsFront}
 use Rattle.snap_check.specs.declared.options.CheckOptions.{CheckOptions}
-use Rattle.snap_verdict.specs.declared.status.Status.TheVariants.{Atomic, Regular, Irregular, Refused, Recorded}
+use Rattle.snap_check.specs.declared.status.Status.TheVariants.{Atomic, Regular, Irregular, Refused, Recorded}
 use Rattle.snap_files.specs.Files.{Answer, ArePages, Opens, Page, Told, greatest_code, said, written}
 use Rattle.snap_files.specs.declared.format.FileOptions.{FileOptions}
 use Rattle.snap_files.specs.declared.format.Format.TheVariants.{Junit}

@@ -8,12 +8,11 @@ ghost use Rattle.snap_files.specs.Files.{IsCounts, IsNamedCounts, object_name};
 ghost use Rattle.snap_files.specs.inside.Files.{BlamesReader};
 
 use crate::page::object_name;
-use snap_check::{CheckOptions, RunFault, Workers};
+use snap_check::{CheckOptions, RunFault, Status, Workers};
 use snap_core::Counted;
 use snap_names::name_lines;
 use snap_runs::stats_input;
 use snap_threads::Cutting;
-use snap_verdict::Status;
 use std::alloc::Global;
 use std::io::Read;
 use std::thread::Threads;

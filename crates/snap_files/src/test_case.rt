@@ -5,13 +5,12 @@ ghost use Rattle.snap_runs.specs.TestCases.{IsTestCase};
 ghost use Rattle.snap_files.specs.Files.{trouble_case};
 ghost use Rattle.snap_files.specs.inside.Files.{BlamesReader};
 
-use snap_check::{CheckOptions, RunFault, Workers};
+use snap_check::{CheckOptions, RunFault, Status, Workers};
 use snap_core::Counted;
 use snap_explain::{Ending, ended_case};
 use snap_names::{Trouble, trouble_words};
 use snap_runs::case_input;
 use snap_threads::Cutting;
-use snap_verdict::Status;
 use std::alloc::{AllocError, Global};
 use std::io::Read;
 use std::thread::Threads;

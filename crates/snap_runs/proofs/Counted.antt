@@ -17,8 +17,8 @@ use Rattle.snap_stats.specs.Lines.{stats_text}
 use Rattle.snap_stats.specs.Stats.{components_of, stats_of}
 use Rattle.snap_stats.specs.declared.stats.ComponentStats.{ComponentStats}
 use Rattle.snap_stats.specs.declared.stats.Stats.{Stats}
-use Rattle.snap_verdict.specs.Statuses.{code_of}
-use Rattle.snap_verdict.specs.declared.status.Status.TheVariants.{Recorded, Refused}
+use Rattle.snap_check.specs.Statuses.{code_of}
+use Rattle.snap_check.specs.declared.status.Status.TheVariants.{Recorded, Refused}
 use Rattle.snap_runs.specs.Stats.{IsCounted, WritesRefusal, WritesStats}
 
 pub counted_text : (name : Option (List ℕ)) (limit : ℕ) (text : List ℕ) (es : List Event) (out : List ℕ) → IsText limit text es → WritesStats name es out → IsCounted name limit text Recorded out

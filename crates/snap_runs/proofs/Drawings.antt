@@ -19,7 +19,7 @@ use Rattle.snap_explain.specs.Explanations.{IsExplanation}
 use Rattle.snap_theory.specs.Levels.{printed_order}
 use Rattle.snap_report.specs.Reports.{has_no_fault}
 use Rattle.snap_format.specs.Records.{HaveRecords}
-use Rattle.snap_verdict.specs.declared.status.Status.{Status}
+use Rattle.snap_check.specs.declared.status.Status.{Status}
 use Rattle.snap_runs.specs.Drawing.{AnswersHistory, ArePartsOf, AreShapesOf, IsDrawing, IsDrawnText, Writes, order_drawn}
 
 pub order_is : (calls : List Call) (t : Tally) (order : Option (Bor (List ℕ))) → is_some order ≡ has_no_fault t → ForSome order (λ numbers. numbers.now ≡ map (λ (c : Call). c.number) (printed_order calls)) →

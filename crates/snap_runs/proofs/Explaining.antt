@@ -9,8 +9,8 @@ use Rattle.snap_csv.specs.Answers.{RefusalLeaves, RefusesText}
 use Rattle.snap_format.specs.Records.{HaveRecords}
 use Rattle.snap_explain.specs.declared.view.Entries.{Entries}
 use Rattle.snap_explain.specs.Refusals.{IsRefusalExplanation, refusal_explanation}
-use Rattle.snap_verdict.specs.declared.status.Status.{Status}
-use Rattle.snap_verdict.specs.declared.status.Status.TheVariants.{Refused}
+use Rattle.snap_check.specs.declared.status.Status.{Status}
+use Rattle.snap_check.specs.declared.status.Status.TheVariants.{Refused}
 use Rattle.snap_runs.specs.Explaining.{ExplainsHistory, IsExplained}
 
 pub explained_text : (limit : ℕ) (listed : Entries) (faults : ℕ) (text : List ℕ) (es : List Event) (records given : List ℕ) (status : Status) (out : List ℕ) → HaveRecords limit text es records → given ≡ records → ExplainsHistory listed faults es given status out → IsExplained limit listed faults text status out

@@ -16,7 +16,7 @@ use Rattle.snap_witness.specs.Keeping.{calls_kept, numbers_kept}
 use Rattle.snap_witness.proofs.KeptCalls.{calls_are_kept, length-as_kept}
 use Rattle.snap_witness.proofs.Numbers.{kept_numbered, kept_within}
 use Rattle.snap_format.specs.Records.{HaveRecords}
-use Rattle.snap_verdict.specs.declared.status.Status.{Status}
+use Rattle.snap_check.specs.declared.status.Status.{Status}
 use Rattle.snap_runs.specs.Cutting.{AreOfWitness}
 use Rattle.snap_runs.specs.Mapping.{AreOfFault, AreSources, IsMapped, MapsHistory}
 

@@ -11,11 +11,11 @@ use Rattle.snap_record.specs.declared.plan.Step.{Step}
 use Rattle.snap_record.specs.Plans.{steps_in}
 use Rattle.snap_check.specs.declared.fault.RunFault.{RunFault}
 use Rattle.snap_check.specs.declared.fault.RunFault.TheVariants as faults
-use Rattle.snap_verdict.specs.declared.status.Status.{Status}
-use Rattle.snap_verdict.specs.declared.status.Status.TheVariants.{Atomic, Recorded, Regular}
+use Rattle.snap_check.specs.declared.status.Status.{Status}
+use Rattle.snap_check.specs.declared.status.Status.TheVariants.{Atomic, Recorded, Regular}
 use Rattle.snap_runs.specs.Recordings.{HasStamps, IsRecorded, IsRecordingOf, IsRecordingReport, IsStampedRecording, WroteAs}
-use Rattle.snap_verdict.specs.Statuses.{status_of}
-use Rattle.snap_verdict.specs.Verdicts.{IsVerdict}
+use Rattle.snap_check.specs.Statuses.{status_of}
+use Rattle.snap_check.specs.Verdicts.{IsVerdict}
 use Rattle.snap_runs.proofs.Narrow.{recording_short}
 
 wrote_also : (Is Also : Status → List ℕ → Type 0) → ((status : Status) (out : List ℕ) → Is status out → Also status out) → (old new : Option (List ℕ)) (answer : Result Status RunFault) → WroteAs Is old new answer → WroteAs Also old new answer

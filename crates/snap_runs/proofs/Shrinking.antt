@@ -8,8 +8,8 @@ use Rattle.snap_core.specs.declared.event.Event.{Event}
 use Rattle.snap_core.specs.Calls.{calls_of}
 use Rattle.snap_core.specs.Orders.{IsAtomic}
 use Rattle.snap_core.specs.Regular.{IsRegular}
-use Rattle.snap_verdict.specs.declared.status.Status.{Status}
-use Rattle.snap_verdict.specs.Verdicts.{HasStatus}
+use Rattle.snap_check.specs.declared.status.Status.{Status}
+use Rattle.snap_check.specs.Verdicts.{HasStatus}
 use Rattle.snap_theory.specs.First.{AreWholeCalls, HasFirstFault}
 use Rattle.snap_runs.specs.Cutting.{IsNumbered}
 use Rattle.snap_runs.specs.Shrinking.{IsCutTo, IsWitnessOf}

@@ -10,11 +10,11 @@ use Rattle.snap_format.specs.declared.refusal.ReadRefusal.{ReadRefusal}
 use Rattle.snap_format.specs.declared.refusal.ReadRefusal.TheVariants as refusals
 use Rattle.snap_csv.specs.Answers.{RefusesText}
 use Rattle.snap_format.specs.Records.{HaveRecords}
-use Rattle.snap_verdict.specs.declared.status.Status.{Status}
-use Rattle.snap_verdict.specs.declared.status.Status.TheVariants.{Refused}
-use Rattle.snap_verdict.specs.Statuses.{code_of}
-use Rattle.snap_verdict.specs.Verdicts.{HasStatus}
-use Rattle.snap_verdict.proofs.Verdicts.{IsTallied, atomic_is, monotone_is, regular_is}
+use Rattle.snap_check.specs.declared.status.Status.{Status}
+use Rattle.snap_check.specs.declared.status.Status.TheVariants.{Refused}
+use Rattle.snap_check.specs.Statuses.{code_of}
+use Rattle.snap_check.specs.Verdicts.{HasStatus}
+use Rattle.snap_check.proofs.Verdicts.{IsTallied, atomic_is, monotone_is, regular_is}
 use Rattle.snap_json.specs.Objects.{few_views_json, history_json, refusal_json}
 use Rattle.snap_json.specs.Values.{IsLineOf}
 use Rattle.snap_runs.specs.Telling.{IsTold, IsToldHistory, TellsHistory, whole_tally}

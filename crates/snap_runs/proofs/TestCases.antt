@@ -13,10 +13,10 @@ use Rattle.snap_format.specs.declared.refusal.ReadRefusal.TheVariants as refusal
 use Rattle.snap_csv.specs.Answers.{RefusalLeaves, RefusesText}
 use Rattle.snap_format.specs.Records.{HaveRecords}
 use Rattle.snap_report.specs.Reports.{has_no_fault}
-use Rattle.snap_verdict.specs.declared.status.Status.{Status}
-use Rattle.snap_verdict.specs.declared.status.Status.TheVariants.{Refused}
-use Rattle.snap_verdict.specs.Verdicts.{HasStatus}
-use Rattle.snap_verdict.proofs.Verdicts.{IsTallied, all_to, atomic_is}
+use Rattle.snap_check.specs.declared.status.Status.{Status}
+use Rattle.snap_check.specs.declared.status.Status.TheVariants.{Refused}
+use Rattle.snap_check.specs.Verdicts.{HasStatus}
+use Rattle.snap_check.proofs.Verdicts.{IsTallied, all_to, atomic_is}
 use Rattle.snap_explain.specs.declared.test_case.Ending.TheVariants.{Failure, Error}
 use Rattle.snap_explain.specs.declared.view.Entries.TheVariants.{OfFault}
 use Rattle.snap_explain.specs.Explanations.{IsExplanation}

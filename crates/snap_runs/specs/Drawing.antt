@@ -17,9 +17,9 @@ use Rattle.snap_explain.specs.Explanations.{IsExplanation}
 use Rattle.snap_theory.specs.Levels.{printed_order}
 use Rattle.snap_report.specs.Reports.{has_no_fault}
 use Rattle.snap_runs.specs.Explaining.{IsExplained}
-use Rattle.snap_verdict.specs.declared.status.Status.{Status}
-use Rattle.snap_verdict.specs.declared.status.Status.TheVariants.{Refused}
-use Rattle.snap_verdict.specs.Verdicts.{HasStatus}
+use Rattle.snap_check.specs.declared.status.Status.{Status}
+use Rattle.snap_check.specs.declared.status.Status.TheVariants.{Refused}
+use Rattle.snap_check.specs.Verdicts.{HasStatus}
 
 -- what a markup may write of the events of a history, their records, the numbers of its calls in a run that it is made from, its shapes,
 -- those of its pieces, the numbers of its printed order, and its explanation

@@ -5,9 +5,9 @@ use Rattle.snap_core.specs.Calls.{calls_of}
 use Rattle.snap_text.specs.declared.fault.TextFault.{TextFault}
 use Rattle.snap_format.specs.Records.{HaveRecords}
 use Rattle.snap_format.specs.Texts.{HasFault}
-use Rattle.snap_verdict.specs.declared.status.Status.{Status}
-use Rattle.snap_verdict.specs.declared.status.Status.TheVariants.{Refused}
-use Rattle.snap_verdict.specs.Verdicts.{HasStatus}
+use Rattle.snap_check.specs.declared.status.Status.{Status}
+use Rattle.snap_check.specs.declared.status.Status.TheVariants.{Refused}
+use Rattle.snap_check.specs.Verdicts.{HasStatus}
 use Rattle.snap_explain.specs.declared.view.Entries.{Entries}
 use Rattle.snap_explain.specs.Explanations.{IsLongExplanation}
 use Rattle.snap_explain.specs.Refusals.{IsRefusalExplanation}

@@ -12,8 +12,8 @@ use Rattle.snap_theory.specs.Witness.{numbers_of}
 use Rattle.snap_report.specs.Lines.{call_word}
 use Rattle.snap_witness.specs.Keeping.{as_kept, calls_kept}
 use Rattle.snap_explain.specs.Calls.{record_word}
-use Rattle.snap_verdict.specs.declared.status.Status.{Status}
-use Rattle.snap_verdict.specs.Reports.{IsRefused}
+use Rattle.snap_check.specs.declared.status.Status.{Status}
+use Rattle.snap_check.specs.Reports.{IsRefused}
 use Rattle.snap_runs.specs.Shrinking.{IsCutTo}
 
 -- the record of the end of a call, if it has one

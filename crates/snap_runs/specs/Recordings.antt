@@ -17,9 +17,9 @@ use Rattle.snap_record.specs.Recording.{ArePlaces, AreStamped}
 use Rattle.snap_check.specs.Runs.{WroteFront, WroteWhole}
 use Rattle.snap_check.specs.declared.fault.RunFault.{RunFault}
 use Rattle.snap_check.specs.declared.fault.RunFault.TheVariants as faults
-use Rattle.snap_verdict.specs.declared.status.Status.{Status}
-use Rattle.snap_verdict.specs.declared.status.Status.TheVariants.{Atomic, Recorded, Regular}
-use Rattle.snap_verdict.specs.Reports.{IsReport}
+use Rattle.snap_check.specs.declared.status.Status.{Status}
+use Rattle.snap_check.specs.declared.status.Status.TheVariants.{Atomic, Recorded, Regular}
+use Rattle.snap_check.specs.Reports.{IsReport}
 
 -- a history that a board's run of these scripts has: regular and monotone, without a pending call, and atomic if no script has a collect.
 -- The process of a worker's number has the calls of that worker's script, in their order, each once, and no other. Scans that were

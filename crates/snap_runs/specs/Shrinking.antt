@@ -6,9 +6,9 @@ use Rattle.snap_core.specs.Orders.{IsAtomic}
 use Rattle.snap_core.specs.Regular.{IsRegular}
 use Rattle.snap_format.specs.Layout.{history_text}
 use Rattle.snap_format.specs.Texts.{IsText}
-use Rattle.snap_verdict.specs.declared.status.Status.{Status}
-use Rattle.snap_verdict.specs.Reports.{IsRefused}
-use Rattle.snap_verdict.specs.Verdicts.{HasStatus}
+use Rattle.snap_check.specs.declared.status.Status.{Status}
+use Rattle.snap_check.specs.Reports.{IsRefused}
+use Rattle.snap_check.specs.Verdicts.{HasStatus}
 use Rattle.snap_theory.specs.First.{AreWholeCalls, HasFirstFault}
 
 -- some whole calls of a history that have its first fault, and so are not atomic

@@ -11,9 +11,9 @@ use Rattle.snap_report.specs.Lines.{line_text}
 use Rattle.snap_report.specs.Refusals.{refusal_line}
 use Rattle.snap_stats.specs.Lines.{stats_text}
 use Rattle.snap_stats.specs.Stats.{components_of, stats_of}
-use Rattle.snap_verdict.specs.Statuses.{code_of}
-use Rattle.snap_verdict.specs.declared.status.Status.{Status}
-use Rattle.snap_verdict.specs.declared.status.Status.TheVariants.{Recorded, Refused}
+use Rattle.snap_check.specs.Statuses.{code_of}
+use Rattle.snap_check.specs.declared.status.Status.{Status}
+use Rattle.snap_check.specs.declared.status.Status.TheVariants.{Recorded, Refused}
 
 -- the counts of a history
 abbrev pub WritesStats : Option (List ℕ) → List Event → List ℕ → Type 0

@@ -11,10 +11,10 @@ use Rattle.snap_text.specs.declared.fault.TextFault.{TextFault}
 use Rattle.snap_format.specs.Records.{HaveRecords}
 use Rattle.snap_format.specs.Texts.{HasFault}
 use Rattle.snap_report.specs.Reports.{has_no_fault, has_no_local_fault, has_no_stale_view}
-use Rattle.snap_verdict.specs.declared.status.Status.{Status}
-use Rattle.snap_verdict.specs.declared.status.Status.TheVariants.{Refused}
-use Rattle.snap_verdict.specs.Statuses.{code_of}
-use Rattle.snap_verdict.specs.Verdicts.{HasStatus}
+use Rattle.snap_check.specs.declared.status.Status.{Status}
+use Rattle.snap_check.specs.declared.status.Status.TheVariants.{Refused}
+use Rattle.snap_check.specs.Statuses.{code_of}
+use Rattle.snap_check.specs.Verdicts.{HasStatus}
 use Rattle.snap_json.specs.Objects.{few_views_json, history_json, refusal_json}
 use Rattle.snap_json.specs.Values.{IsLineOf}
 

@@ -6,9 +6,9 @@ use Rattle.snap_core.specs.Orders.{IsAtomic}
 use Rattle.snap_text.specs.declared.fault.TextFault.{TextFault}
 use Rattle.snap_format.specs.Records.{HaveRecords}
 use Rattle.snap_format.specs.Texts.{HasFault}
-use Rattle.snap_verdict.specs.declared.status.Status.{Status}
-use Rattle.snap_verdict.specs.declared.status.Status.TheVariants.{Refused}
-use Rattle.snap_verdict.specs.Verdicts.{HasStatus}
+use Rattle.snap_check.specs.declared.status.Status.{Status}
+use Rattle.snap_check.specs.declared.status.Status.TheVariants.{Refused}
+use Rattle.snap_check.specs.Verdicts.{HasStatus}
 use Rattle.snap_explain.specs.declared.test_case.Ending.TheVariants.{Failure, Error}
 use Rattle.snap_explain.specs.declared.view.Entries.TheVariants.{OfFault}
 use Rattle.snap_explain.specs.Explanations.{IsExplanation}

@@ -7,8 +7,8 @@ use Rattle.snap_draw.specs.declared.window.Window.{Window}
 use Rattle.snap_explain.specs.declared.view.Entries.{Entries}
 use Rattle.snap_runs.specs.Cutting.{AreBeside}
 use Rattle.snap_runs.specs.Shrinking.{IsCutTo}
-use Rattle.snap_verdict.specs.declared.status.Status.{Status}
-use Rattle.snap_verdict.specs.Reports.{IsRefused}
+use Rattle.snap_check.specs.declared.status.Status.{Status}
+use Rattle.snap_check.specs.Reports.{IsRefused}
 use Rattle.snap_runs.specs.Drawing.{IsDrawing, Writes}
 
 -- the picture of what a history is cut down to: its witness, or itself if it is atomic. The records are those of the text of that, and

@@ -4,15 +4,14 @@ ghost use Rattle.std.specs.List.{range_with_len};
 ghost use Rattle.snap_core.specs.Calls.{calls_of, views_of};
 ghost use Rattle.snap_core.specs.Events.{event_cap};
 ghost use Rattle.snap_conditions.specs.Tally.{tally_of};
-ghost use Rattle.snap_verdict.specs.Verdicts.{HasStatus};
+ghost use Rattle.snap_check.specs.Verdicts.{HasStatus};
 ghost use Rattle.snap_runs.specs.Cutting.{AreBeside, IsNumbered};
 ghost use Rattle.snap_runs.specs.Shrinking.{IsCutTo};
 
-use snap_check::Judging;
+use snap_check::{Judging, Status, status_of};
 use snap_conditions::Tally;
 use snap_core::History;
 use snap_index::Index;
-use snap_verdict::{Status, status_of};
 use snap_witness::{kept_calls, witness};
 use std::alloc::{AllocError, Global};
 

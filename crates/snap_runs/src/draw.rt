@@ -11,7 +11,7 @@ ghost use Rattle.snap_runs.specs.Drawing.{AnswersHistory, DrawsHistory, IsDrawin
 ghost use Rattle.snap_draw.specs.declared.window.Place.TheVariants.{Faults};
 
 use crate::markup::Markup;
-use snap_check::{Judging, RunFault, Workers, workers_of};
+use snap_check::{Judging, RunFault, Status, Workers, status_of, workers_of};
 use snap_conditions::Tally;
 use snap_core::{Counted, History, Limit};
 use snap_csv::{ReadRefusal, read_records};
@@ -19,7 +19,6 @@ use snap_draw::{Numbering, Picture, has_call, parts_of, shapes_of};
 use snap_explain::{explain, explain_refusal};
 use snap_index::Index;
 use snap_threads::Cutting;
-use snap_verdict::{Status, status_of};
 use std::alloc::{AllocError, Global};
 use std::io::{Read, Write};
 use std::thread::Threads;

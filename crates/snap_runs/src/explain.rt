@@ -7,13 +7,12 @@ ghost use Rattle.snap_explain.specs.Explanations.{IsLongExplanation};
 ghost use Rattle.snap_runs.specs.Explaining.{ExplainsHistory, IsExplained};
 ghost use Rattle.snap_check.specs.Runs.{JudgeCounts, JudgesBy, RunCounts, WroteBy};
 
-use snap_check::{Judging, RunFault, workers_of};
+use snap_check::{Judging, RunFault, Status, status_of, workers_of};
 use snap_core::{Counted, History, Limit};
 use snap_csv::{ReadRefusal, read_records};
 use snap_explain::{Entries, explain_faults, explain_refusal};
 use snap_index::Index;
 use snap_threads::Cutting;
-use snap_verdict::{Status, status_of};
 use std::alloc::{AllocError, Global};
 use std::io::{Read, Write};
 use std::thread::Threads;

@@ -5,15 +5,14 @@ ghost use Rattle.snap_core.specs.Counting.{failures_in, inner_of};
 ghost use Rattle.snap_format.specs.Layout.{history_text, stamped_text};
 ghost use Rattle.snap_record.specs.Plans.{AreWorkers, HasNoViews};
 ghost use Rattle.snap_runs.specs.Recordings.{HasStamps, IsRecorded, IsRecordingOf, IsStampedRecording, WriteCounts, WroteAs};
-ghost use Rattle.snap_verdict.specs.Verdicts.{IsVerdict};
-ghost use Rattle.snap_verdict.specs.declared.status.Status.TheVariants.{Atomic, Recorded};
+ghost use Rattle.snap_check.specs.Verdicts.{IsVerdict};
+ghost use Rattle.snap_check.specs.declared.status.Status.TheVariants.{Atomic, Recorded};
 
-use snap_check::{CheckOptions, RunFault, verdict};
+use snap_check::{CheckOptions, RunFault, Status, verdict};
 use snap_core::{Counted, Gate, History, OpenGate};
 use snap_csv::{write_history, write_history_stamped};
 use snap_record::{Plan, Recording, record_plan};
 use snap_threads::Cutting;
-use snap_verdict::Status;
 use std::alloc::{AllocError, Global};
 use std::io::Write;
 use std::sync::Wait;

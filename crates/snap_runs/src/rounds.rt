@@ -5,11 +5,10 @@ ghost use Rattle.snap_record.specs.Plans.{AreRounds, AreWorkers, rounds_scripts}
 ghost use Rattle.snap_runs.specs.Recordings.{IsRecorded, IsStampedRecording, WriteCounts, WroteAs};
 
 use crate::recording::{record_run, record_run_stamped};
-use snap_check::RunFault;
+use snap_check::{RunFault, Status};
 use snap_core::{Counted, Limit};
 use snap_record::{Pace, Plan, PlanRefusal, rounds_plan_within};
 use snap_threads::Cutting;
-use snap_verdict::Status;
 use std::alloc::{AllocError, Global};
 use std::io::Write;
 use std::sync::Wait;

@@ -6,11 +6,10 @@ ghost use Rattle.snap_format.specs.Layout.{history_text};
 ghost use Rattle.snap_runs.specs.Shrinking.{IsShrunk};
 
 use crate::cut::cut;
-use snap_check::{Judging, Reading, RunFault, read_in, workers_of};
+use snap_check::{Judging, Reading, RunFault, Status, read_in, workers_of};
 use snap_core::{Counted, History, Limit};
 use snap_csv::write_history;
 use snap_threads::Cutting;
-use snap_verdict::Status;
 use std::alloc::{AllocError, Global};
 use std::io::{Read, Write};
 use std::thread::Threads;

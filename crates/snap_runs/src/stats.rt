@@ -5,7 +5,7 @@ ghost use Rattle.snap_core.specs.Counting.{failures_in, inner_of};
 ghost use Rattle.snap_check.specs.Runs.{JudgeCounts, JudgesBy, RunCounts, WroteBy};
 ghost use Rattle.snap_runs.specs.Stats.{IsCounted, WritesRefusal, WritesStats};
 
-use snap_check::{Judging, RunFault, workers_of};
+use snap_check::{Judging, RunFault, Status, workers_of};
 use snap_core::{Counted, History, Limit};
 use snap_csv::ReadRefusal;
 use snap_index::Index;
@@ -14,7 +14,6 @@ use snap_report::refusal_text;
 use snap_stats::{stats_of, stats_text};
 use snap_text::TextFault;
 use snap_threads::Cutting;
-use snap_verdict::Status;
 use std::alloc::{AllocError, Global};
 use std::io::{Read, Write};
 use std::thread::Threads;

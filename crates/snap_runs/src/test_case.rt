@@ -6,14 +6,13 @@ ghost use Rattle.snap_explain.specs.TestCases.{ended_case};
 ghost use Rattle.snap_explain.specs.declared.test_case.Ending.TheVariants.{Failure};
 ghost use Rattle.snap_runs.specs.TestCases.{IsHistoryCase, IsJudgedCase, IsTestCase, few_views_text};
 
-use snap_check::{Judging, RunFault};
+use snap_check::{Judging, RunFault, Status, status_of};
 use snap_conditions::is_atomic;
 use snap_core::{Counted, History, Limit};
 use snap_csv::{ReadRefusal, read_records};
 use snap_explain::{Ending, Entries, ended_case, explain, explain_refusal, passed_case};
 use snap_index::Index;
 use snap_report::put_number;
-use snap_verdict::{Status, status_of};
 use std::alloc::{AllocError, Global};
 use std::io::Read;
 

@@ -4,6 +4,7 @@ ghost use Rattle.std.specs.Prelude.{◌≡◌};
 ghost use Rattle.snap_conditions.specs.Tally.{tally_of};
 
 use crate::fault::{Fault, expect};
+use snap_check::{Status, brief_verdict_of, judge_text, verdict_of_chain};
 use snap_conditions::{Tally, is_atomic, tally_range};
 use snap_core::{Counted, Event, History, Limit};
 use snap_csv::{
@@ -19,7 +20,6 @@ use snap_testing::worked::{CROSSED_VIEWS, STALE_AND_WRONG, VIEW_BESIDE_UPDATE};
 use snap_testing::{Cup, entry, history_of};
 use snap_text::{TextFault, fields_of};
 use snap_threads::Cutting;
-use snap_verdict::{Status, brief_verdict_of, judge_text, verdict_of_chain};
 use snap_witness::witness;
 use std::alloc::{AllocError, Global};
 use std::thread::Threads;

@@ -1,6 +1,7 @@
 //! The explanations of worked histories, against texts that were written by hand.
 ghost use Rattle.std.specs.Prelude.{◌≡◌, length, IfOk};
 
+use snap_check::order_alone;
 use snap_core::{History, Limit};
 use snap_explain::{Entries, explain, explain_refusal};
 use snap_index::Index;
@@ -12,7 +13,6 @@ use snap_testing::worked::{
 };
 use snap_testing::{Shown, Step, history_of};
 use snap_text::TextFault;
-use snap_verdict::order_alone;
 use std::alloc::{AllocError, Global};
 use std::test::Fail;
 

@@ -1,10 +1,10 @@
 //! The shapes that are drawn for worked histories, against shapes worked out by hand.
+use snap_check::order_alone;
 use snap_draw::{Bar, Kind, Mark, Place, Shapes, Window, shapes_of};
 use snap_index::Index;
 use snap_tally::tally_and_chain_alone;
 use snap_testing::worked::{ATOMIC_RUN, MISSED_UPDATE, NEW_THEN_OLD, NOTHING, SEEN_PENDING};
 use snap_testing::{Step, history_of};
-use snap_verdict::order_alone;
 use std::alloc::{AllocError, Global};
 use std::process::Abort;
 use std::test::Fail;

@@ -1,9 +1,9 @@
 //! The status of worked texts, and the report or the lines of the verdicts, judged on the calling thread.
+use snap_check::{Status, brief_verdict_of, judge_text, status_of};
 use snap_conditions::tally_range;
 use snap_core::Limit;
 use snap_csv::read_text;
 use snap_index::Index;
-use snap_verdict::{Status, brief_verdict_of, judge_text, status_of};
 use std::alloc::Global;
 use std::process::Abort;
 use std::test::Fail;

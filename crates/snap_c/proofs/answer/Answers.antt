@@ -1,6 +1,6 @@
 use Rattle.std.proofs.Common.{Option, refl, inl, inr, arith, subst}
 use Rattle.snap_c.specs.Questions.{IsAnswerTo}
-use Rattle.snap_verdict.specs.declared.status.Status.{Status}
+use Rattle.snap_check.specs.declared.status.Status.{Status}
 use Rattle.snap_c.proofs.answer.Goals as goal
 
 -- by these answers a wrong body is refused at once, without a search

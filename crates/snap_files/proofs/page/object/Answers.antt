@@ -1,6 +1,6 @@
 use Rattle.std.proofs.Common.{◌∙◌, ap, vec_items, List, ℕ}
 use Rattle.snap_core.specs.Counting.{inner_of}
-use Rattle.snap_verdict.specs.declared.status.Status.{Status}
+use Rattle.snap_check.specs.declared.status.Status.{Status}
 use Rattle.snap_runs.specs.Telling.{IsTold}
 use Rattle.snap_files.proofs.Written.{into_memory}
 use Rattle.snap_files.proofs.page.object.Goals as goal

@@ -1,6 +1,6 @@
 use Rattle.std.proofs.Common.{subst}
 use Rattle.snap_runs.specs.Cutting.{IsNumbered}
-use Rattle.snap_verdict.specs.Verdicts.{HasStatus}
+use Rattle.snap_check.specs.Verdicts.{HasStatus}
 use Rattle.snap_runs.proofs.cut.judged_witness.Goals as goal
 
 pub returns-clause-status : goal.returns-clause-status

@@ -1,7 +1,7 @@
 use Rattle.std.proofs.Common.{◌≡◌, subst}
 use Rattle.snap_core.specs.Counting.{inner_of}
 use Rattle.snap_format.specs.Layout.{stamped_text}
-use Rattle.snap_verdict.specs.declared.status.Status.TheVariants.{Recorded}
+use Rattle.snap_check.specs.declared.status.Status.TheVariants.{Recorded}
 use Rattle.snap_runs.specs.Recordings.{WroteAs}
 use Rattle.snap_runs.proofs.Recordings.{stamped_written}
 use Rattle.snap_runs.proofs.recording.record_run_stamped.Goals as goal

@@ -1,5 +1,0 @@
-use Rattle.snap_verdict.proofs.Each.{each_report}
-use Rattle.snap_verdict.proofs.law.each_text_has_a_report.Goals as goal
-
-pub returns : goal.returns
-returns c = each_report

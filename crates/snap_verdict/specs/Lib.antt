@@ -1,4 +1,0 @@
-pub mod Statuses
-pub mod Verdicts
-pub mod Reports
-pub mod Laws
