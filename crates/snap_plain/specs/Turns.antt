@@ -23,8 +23,12 @@ abbrev pub TakesOn : ℕ → List ℕ → List ℕ → List Event → List Event
 TakesOn limit lines rest old new (Ok later) = (rows : List Fields) → HasTaken limit lines rest old rows → HasTaken limit lines later.now new rows
 TakesOn limit lines rest old new (Err e) = (rows : List Fields) → HasTaken limit lines rest old rows → RefusesRows limit rows e
 
--- a new history takes the first of the lines, and what is waiting was read ahead of them; or the first fault
-abbrev pub TakesTurns : {X : Type 0} → ℕ → List ℕ → Result (Turns × X) ReadRefusal → Type 0
-TakesTurns limit lines (Ok x) =
-    (x.0.history.limit ≡ limit) × All (IsAhead lines) x.0.waiting.items × ((rows : List Fields) → HasTaken limit lines lines [] rows → HasTaken limit lines x.0.behind.now x.0.history.events rows)
-TakesTurns limit lines (Err e) = (rows : List Fields) → HasTaken limit lines lines [] rows → RefusesRows limit rows e
+-- a new history has taken the first of the lines, and what is waiting was read ahead of them
+abbrev pub HasTurns : ℕ → List ℕ → Turns → Type 0
+HasTurns limit lines turns =
+    (turns.history.limit ≡ limit) × All (IsAhead lines) turns.waiting.items × ((rows : List Fields) → HasTaken limit lines lines [] rows → HasTaken limit lines turns.behind.now turns.history.events rows)
+
+-- a new history has taken the first of the lines, or the first fault
+abbrev pub TakesTurns : {A : Type 0} → (A → Turns) → ℕ → List ℕ → Result A ReadRefusal → Type 0
+TakesTurns turns_of limit lines (Ok a) = HasTurns limit lines (turns_of a)
+TakesTurns turns_of limit lines (Err e) = (rows : List Fields) → HasTaken limit lines lines [] rows → RefusesRows limit rows e

@@ -4,7 +4,7 @@ ghost use Rattle.snap_format.specs.Layout.{is_header_row};
 ghost use Rattle.snap_plain.specs.Ahead.{IsAhead, IsPieceOf};
 ghost use Rattle.snap_plain.specs.Lines.{HasLines, HasRows};
 ghost use Rattle.snap_plain.specs.Sharing.{IsDone, IsNewClaim, IsNewJob};
-ghost use Rattle.snap_plain.specs.Turns.{HasTaken, TakesOn, TakesTurns};
+ghost use Rattle.snap_plain.specs.Turns.{HasTaken, TakesTurns};
 ghost use Rattle.snap_format.specs.Taking.{AnswersNumbered};
 ghost use Rattle.snap_text.specs.Fields.{Fields};
 ghost use Rattle.snap_threads.specs.Claiming.{IsClaimOf, IsFinished};
@@ -101,7 +101,7 @@ fn shared_history<T: Text + Send + Sync, R: Threads + Sync>(
         { send_drawn(alloc, lines, pieces, shared, limit, job) },
         || -> Result<(Turns, Vec<Outlet<T>>), ReadRefusal>
             requires { (lines.now ≡ T.lines) × All (IsPieceOf lines.now) pieces.now × (shared.now.pieces ≡ length pieces.now) × IsNewClaim shared.now own }
-            ensures { TakesTurns limit.events lines.entry.now result }
+            ensures { TakesTurns (λ turns. turns.0) limit.events lines.entry.now result }
         { take_turns(alloc, lines, pieces, shared, limit, own, outlets) },
     );
     done?;
@@ -170,8 +170,8 @@ fn start<T: Text>(
     Ok((counter, jobs, outlets, own))
 }
 
-// Takes lines in order until all pieces are drawn: what workers have sent of them, or what it reads itself. While the next ones are
-// still being read, it reads a later piece ahead. The answer is the lines after these, or the first fault.
+// A history that takes lines in order until all pieces are drawn: what workers have sent of them, or what it reads itself. While the
+// next ones are still being read, it reads a later piece ahead. The first fault ends it earlier.
 fn take_drawn<'t, T: Text>(
     alloc: Global,
     lines: &'t [u8],
@@ -179,36 +179,36 @@ fn take_drawn<'t, T: Text>(
     counter: &Claims,
     limit: Limit,
     claim: &mut Claim,
-    known: &mut Known,
     outlets: &mut [Outlet<T>],
-    waiting: &mut Vec<Ahead>,
-    history: &mut History,
-) -> Result<&'t [u8], ReadRefusal>
+) -> Result<Turns<'t>, ReadRefusal>
     requires text { lines.now ≡ T.lines }
     requires pieces { All (IsPieceOf lines.now) pieces.now }
-    requires limit { history.old.limit ≡ limit.events }
-    requires waiting { All (IsAhead lines.now) waiting.old.items }
     requires counter { counter.now.pieces ≡ length pieces.now }
     requires claim { IsClaimOf counter.now claim.old }
-    ensures takes { TakesOn limit.events lines.now lines.now history.old.events history.new.events result }
-    ensures limit { history.new.limit ≡ history.old.limit }
-    ensures waiting { All (IsAhead lines.now) waiting.new.items }
+    ensures takes { TakesTurns (λ turns. turns) limit.events lines.now result }
     ensures of_counter { IsClaimOf counter.now claim.new }
     ensures finished { OnOk result (IsFinished claim.new) }
 {
+    let mut known = Known::new(alloc);
+    let mut history = History::with_limit(alloc, limit);
+    let mut waiting = Vec::new(alloc);
     let mut behind = lines;
     'each: while let Some(number) = counter.draw(claim) {
-        receive(outlets, waiting)?;
-        behind = take_ahead(lines, behind, waiting, history)?;
+        receive(outlets, &mut waiting)?;
+        behind = take_ahead(lines, behind, &mut waiting, &mut history)?;
         let piece = pieces[number as usize];
         if lines.len() - piece.from == behind.len() {
             let stop = lines.len() - piece.to;
-            behind = take_lines(alloc, known, behind, stop, limit, history)?;
+            behind = take_lines(alloc, &mut known, behind, stop, limit, &mut history)?;
         } else {
             waiting.push(read_piece(alloc, lines, piece, limit))?;
         }
     }
-    Ok(behind)
+    Ok(Turns {
+        history,
+        behind,
+        waiting,
+    })
 }
 
 // Draws the pieces that are left, so that none is read.
@@ -233,11 +233,8 @@ fn take_turns<'t, T: Text>(
     requires pieces { All (IsPieceOf lines.now) pieces.now }
     requires counter { counter.now.pieces ≡ length pieces.now }
     requires claim { IsNewClaim counter.now claim }
-    ensures { TakesTurns limit.events lines.now result }
+    ensures { TakesTurns (λ turns. turns.0) limit.events lines.now result }
 {
-    let mut known = Known::new(alloc);
-    let mut history = History::with_limit(alloc, limit);
-    let mut waiting = Vec::new(alloc);
     match take_drawn(
         alloc,
         lines,
@@ -245,19 +242,9 @@ fn take_turns<'t, T: Text>(
         counter,
         limit,
         &mut claim,
-        &mut known,
         &mut outlets,
-        &mut waiting,
-        &mut history,
     ) {
-        Ok(behind) => Ok((
-            Turns {
-                history,
-                behind,
-                waiting,
-            },
-            outlets,
-        )),
+        Ok(turns) => Ok((turns, outlets)),
         Err(refusal) => {
             draw_rest(counter, &mut claim);
             Err(refusal)

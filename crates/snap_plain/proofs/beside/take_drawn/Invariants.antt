@@ -1,4 +1,4 @@
-use Rattle.std.proofs.Common.{◌≡◌, ◌-◌, All, List, length}
+use Rattle.std.proofs.Common.{◌≡◌, ◌-◌, [], All, List, length}
 use Rattle.snap_plain.specs.Ahead.{IsAhead}
 use Rattle.snap_plain.specs.Turns.{HasTaken}
 use Rattle.snap_text.specs.Fields.{Fields}
@@ -7,7 +7,7 @@ use Rattle.snap_plain.proofs.beside.take_drawn.Given as goal
 
 abbrev pub invariant-each : goal.invariant-each
 invariant-each g l = record {
-  taken : (rows : List Fields) → HasTaken l.fn.limit.events l.lines l.lines l.fn.history.events rows → HasTaken l.fn.limit.events l.lines l.behind l.history.events rows;
+  taken : (rows : List Fields) → HasTaken l.fn.limit.events l.lines l.lines [] rows → HasTaken l.fn.limit.events l.lines l.behind l.history.events rows;
   limit : l.history.limit ≡ l.fn.limit.events;
   waiting : All (IsAhead l.lines) l.waiting.items;
   of_counter : IsClaimOf l.counter l.claim;
