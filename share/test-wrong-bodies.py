@@ -225,6 +225,15 @@ def forgotten():
     return [] if found == wanted else [f"three runs tried {found}, and had to try {wanted}"]
 
 
+def unread():
+    """What is wrong with which wrong bodies are said not to compile, of some in a check together, and of some alone."""
+    with tempfile.TemporaryDirectory() as room:
+        crate, edits = write_crate(room, ["lib.next.no-step", "lib.next.two-steps", "lib.same.no-such-type", "lib.same.no-such-text", "longer-step", "steps.far.too-far"])
+        found = sorted(map(name_of, wrong_bodies.uncompiled(crate, edits)))
+    wanted = ["lib.same.no-such-text", "lib.same.no-such-type"]
+    return [] if found == wanted else [f"these do not compile: {found}; and should not: {wanted}"]
+
+
 def tasks_of(parts, tried):
     """Tasks as the toolchain's gate has them, each of whose parts gives what it is given here, and which note themselves when they begin.
     All wait for the first, and earlier ones have more lines."""
@@ -264,7 +273,7 @@ def main():
     rt.rtlib.guarded()
     passed = failed = 0
     more = ""
-    tries = [crowded(), *(misjudged(*it) for it in RUNS), misled()]
+    tries = [crowded(), *(misjudged(*it) for it in RUNS), misled(), unread()]
     if wrong_bodies.KEEPS:
         tries.append(forgotten())
     else:

@@ -4,6 +4,8 @@
 usage: wrong_bodies.py ci [--anew]    the toolchain's gate, `rt ci`, with the wrong bodies tried so; it ends soon after a crate, or its
                                       tests, were not proved
        wrong_bodies.py CRATE ..       those of some crates, over the libraries below them, as `rt must-fail` does
+       wrong_bodies.py compile CRATE ..    whether those of some crates compile, over the libraries below them; that proves nothing, and
+                                      takes seconds for many. The gate is red for one that does not
 
 The toolchain proves a crate once more for its wrong bodies, and then checks it once for each. Most of a check goes into loading what
 the crate depends on. So here a check has many wrong bodies, and proves only their functions and what these call. A second wrong body
@@ -29,6 +31,7 @@ import tempfile
 import time
 from dataclasses import dataclass, replace
 
+TOP = os.path.dirname(os.path.dirname(os.path.abspath(__file__)))
 RT = os.path.realpath(shutil.which("rt") or sys.exit("there is no rt on the path"))
 # A check of more wrong bodies would need more memory than the proof of the crate.
 MOST = 24
@@ -42,6 +45,7 @@ TYPE = re.compile(r"(?:pub(?:\(\w+\))? )?(?:struct|enum) (\w+)")
 # What a check says of a place, and what it says of a goal that is not proved.
 PLACE = re.compile(r"(?:note: )?(?:\./)?((?:src|proofs)/\S+?):(\d+):\d+: (.*)")
 UNPROVED = re.compile(r"error: `|it is not proved that ")
+BROKEN = re.compile(r"(?:^|: )error(?:\[|:)")
 # A proof that only misses a name which a wrong body took away says nothing of a contract.
 MISSES = re.compile(r"has no field|is not in scope|has no `|was not admitted")
 
@@ -395,6 +399,47 @@ def try_together(crate, edits, flags):
     return [alone[it] if it in alone else (REFUSED, said(it)) for it in edits]
 
 
+def uncompiled(crate, edits):
+    """The wrong bodies that do not compile, each with what is said of it. Most are read in one check with others, which proves nothing."""
+    tried = Crate(crate)
+    alone, wrongs, why = {}, [], {}
+    for edit in edits:
+        texts, said = rt.read_edit(edit, crate.folder)
+        wrong = tried.wrong_of(edit) if texts else None
+        if not texts:
+            why[edit] = said
+        elif wrong:
+            wrongs.append(wrong)
+        else:
+            alone[edit] = texts
+    with tempfile.TemporaryDirectory(prefix="wrong-bodies-") as kept:
+
+        def error_in(texts):
+            said = tried.checked(texts, ["--jobs", "1", "--only", ""], kept)
+            return next(filter(BROKEN.search, said.split("\n")), None)
+
+        for check in checks_of(tried, wrongs):
+            together = tried.together(check)
+            if error_in(together.texts | together.proofs):
+                alone |= {it.edit: it.texts for it in check}
+        said = {edit: error_in(texts) for edit, texts in alone.items()}
+    return why | {edit: line for edit, line in said.items() if line}
+
+
+def compile_all(names):
+    """Says of each crate which of its wrong bodies do not compile. The status is 1 if one does not."""
+    known, status = {}, 0
+    for name in names:
+        crate = rt.Crate(f"{TOP}/crates/{name}", TOP, known)
+        edits = rt.edits_of(crate)[0]
+        broken = uncompiled(crate, edits)
+        for edit, line in broken.items():
+            print(f"must-fail {name}/{os.path.basename(edit)}: does not compile: {line[:200]}", flush=True)
+        print(f"{name}: {len(edits) - len(broken)} of {len(edits)} wrong bodies compile", flush=True)
+        status |= bool(broken)
+    return status
+
+
 def add_edits(tasks, crate, edits, first, waits, is_well, kept, start=None, in_ci=True):
     """As the toolchain's call of that name: adds the task that tries a crate's wrong bodies once the crate is proved, and returns what gives
     its results, and what gives those of earlier runs on this machine, by their numbers."""
@@ -465,6 +510,9 @@ def main(words):
         rt.in_lanes = until_broken(rt.in_lanes)
     else:
         print("this toolchain tries each wrong body in its own way", flush=True)
+    if words[0] == "compile":
+        rt.rtlib.guarded()
+        return compile_all(words[1:])
     if words[0] != "ci":
         return rt.main(["must-fail", *words])
     # while wrong bodies wait for a processor, a second job of a proof costs more than it saves
