@@ -45,7 +45,8 @@ TYPE = re.compile(r"(?:pub(?:\(\w+\))? )?(?:struct|enum) (\w+)")
 # What a check says of a place, and what it says of a goal that is not proved.
 PLACE = re.compile(r"(?:note: )?(?:\./)?((?:src|proofs)/\S+?):(\d+):\d+: (.*)")
 UNPROVED = re.compile(r"error: `|it is not proved that ")
-BROKEN = re.compile(r"(?:^|: )error(?:\[|:)")
+# What a check says if it cannot compile.
+BROKEN = re.compile(r"(?:^|: )error\[")
 # A proof that only misses a name which a wrong body took away says nothing of a contract.
 MISSES = re.compile(r"has no field|is not in scope|has no `|was not admitted")
 
@@ -416,7 +417,7 @@ def uncompiled(crate, edits):
 
         def error_in(texts):
             said = tried.checked(texts, ["--jobs", "1", "--only", ""], kept)
-            return next(filter(BROKEN.search, said.split("\n")), None)
+            return next((it for it in said.split("\n") if BROKEN.search(it) or rt.unread(it, texts)), None)
 
         for check in checks_of(tried, wrongs):
             together = tried.together(check)
