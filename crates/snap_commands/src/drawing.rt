@@ -1,8 +1,8 @@
 //! The run of `draw`: a part from a reader to a writer, and its start on the system.
 ghost use Rattle.std.specs.Prelude.{◌≡◌, unwrap_or};
-ghost use Rattle.snap_check.specs.Runs.{WroteBy};
+ghost use Rattle.snap_check.specs.Runs.{RunCounts, WroteBy};
 ghost use Rattle.snap_commands.specs.Pictures.{IsPicture, place_of as spec_place_of, usual_calls as spec_usual_calls, window_of as spec_window_of};
-ghost use Rattle.snap_core.specs.Counting.{inner_of};
+ghost use Rattle.snap_core.specs.Counting.{failures_in, inner_of};
 
 use crate::failure::Failure;
 use crate::files::open_only;
@@ -68,7 +68,8 @@ fn draw_from<Rt: Threads + Sync, R: Read, W: Write>(
     window: Window,
     limit: Limit,
 ) -> Result<Option<Status>, RunFault>
-    ensures { WroteBy (IsPicture form window limit.events) (R.remaining (inner_of reader.old)) (W.contents (inner_of writer.old)) (W.contents (inner_of writer.new)) result }
+    ensures wrote { WroteBy (IsPicture form window limit.events) (R.remaining (inner_of reader.old)) (W.contents (inner_of writer.old)) (W.contents (inner_of writer.new)) result }
+    ensures counts { RunCounts (failures_in reader.old) (failures_in reader.new) (failures_in writer.old) (failures_in writer.new) result }
 {
     match form {
         Form::Page(scheme) => {

@@ -1,11 +1,11 @@
 //! The runs of the commands that take one text or none. Each is a part from a reader to a writer, and a start of that part on the system.
 ghost use Rattle.std.specs.Prelude.{◌≡◌, None, Ok, Some, true, false, IsErr, MatchResult};
-ghost use Rattle.snap_check.specs.Runs.{WroteBy};
-ghost use Rattle.snap_core.specs.Counting.{inner_of};
+ghost use Rattle.snap_check.specs.Runs.{RunCounts, WroteBy};
+ghost use Rattle.snap_core.specs.Counting.{failures_in, inner_of};
 ghost use Rattle.snap_record.specs.Plans.{AreRounds, AreWorkers, rounds_scripts};
 ghost use Rattle.snap_runs.specs.Explaining.{IsExplained};
 ghost use Rattle.snap_runs.specs.Mapping.{IsMapped};
-ghost use Rattle.snap_runs.specs.Recordings.{IsRecorded, IsStampedRecording, WroteAs};
+ghost use Rattle.snap_runs.specs.Recordings.{IsRecorded, IsStampedRecording, WriteCounts, WroteAs};
 ghost use Rattle.snap_runs.specs.Shrinking.{IsShrunk};
 ghost use Rattle.snap_runs.specs.Stats.{IsCounted};
 ghost use Rattle.snap_check.specs.Statuses.{code_of};
@@ -48,6 +48,7 @@ fn shrink_from<Rt: Threads + Sync, R: Read, W: Write>(
 ) -> Result<Status, RunFault>
     ensures text { shrunk ≡ Shrunk.Witness → WroteBy (IsShrunk limit.events) (R.remaining (inner_of reader.old)) (W.contents (inner_of writer.old)) (W.contents (inner_of writer.new)) result }
     ensures map { shrunk ≡ Shrunk.Map → WroteBy (IsMapped limit.events) (R.remaining (inner_of reader.old)) (W.contents (inner_of writer.old)) (W.contents (inner_of writer.new)) result }
+    ensures counts { RunCounts (failures_in reader.old) (failures_in reader.new) (failures_in writer.old) (failures_in writer.new) result }
 {
     match shrunk {
         Shrunk::Witness => shrink_run(rt, alloc, reader, writer, limit),
@@ -88,6 +89,7 @@ fn explain_from<Rt: Threads + Sync, R: Read, W: Write>(
     limit: Limit,
 ) -> Result<Status, RunFault>
     ensures text { drawn ≡ false → WroteBy (IsExplained limit.events listed faults) (R.remaining (inner_of reader.old)) (W.contents (inner_of writer.old)) (W.contents (inner_of writer.new)) result }
+    ensures counts { RunCounts (failures_in reader.old) (failures_in reader.new) (failures_in writer.old) (failures_in writer.new) result }
 {
     if drawn {
         let explained = Explained { listed };
@@ -151,6 +153,7 @@ fn stats_from<Rt: Threads + Sync, R: Read, W: Write>(
 ) -> Result<Status, RunFault>
     ensures lines { json ≡ false → WroteBy (IsCounted None limit.events) (R.remaining (inner_of reader.old)) (W.contents (inner_of writer.old)) (W.contents (inner_of writer.new)) result }
     ensures object { json ≡ true → WroteBy (IsCounted (Some name.now) limit.events) (R.remaining (inner_of reader.old)) (W.contents (inner_of writer.old)) (W.contents (inner_of writer.new)) result }
+    ensures counts { RunCounts (failures_in reader.old) (failures_in reader.new) (failures_in writer.old) (failures_in writer.new) result }
 {
     if json {
         stats_run(rt, alloc, Some(name), reader, writer, limit)
@@ -199,6 +202,7 @@ fn record_to<Rt: Threads + Wait + Sync, W: Write>(
     requires { AreWorkers workers × AreRounds rounds }
     ensures recording { stamped ≡ false → WroteAs (IsRecorded judge (rounds_scripts scan workers rounds)) (W.contents (inner_of writer.old)) (W.contents (inner_of writer.new)) result }
     ensures stamped { stamped ≡ true → WroteAs (IsStampedRecording (rounds_scripts scan workers rounds)) (W.contents (inner_of writer.old)) (W.contents (inner_of writer.new)) result }
+    ensures counts { WriteCounts (failures_in writer.old) (failures_in writer.new) result }
 {
     if stamped {
         record_seeded_rounds_stamped(rt, alloc, workers, rounds, scan, seed, writer)

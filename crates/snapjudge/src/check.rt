@@ -35,7 +35,8 @@ fn check_from<Rt: Threads + Sync, R: Read, W: Write>(
     limit: Limit,
     asked: Options,
 ) -> Result<Option<Status>, RunFault>
-    ensures { WroteBy (IsReportWith (check_of limit asked)) (R.remaining (inner_of reader.old)) (W.contents (inner_of writer.old)) (W.contents (inner_of writer.new)) result }
+    ensures wrote { WroteBy (IsReportWith (check_of limit asked)) (R.remaining (inner_of reader.old)) (W.contents (inner_of writer.old)) (W.contents (inner_of writer.new)) result }
+    ensures counts { RunCounts (failures_in reader.old) (failures_in reader.new) (failures_in writer.old) (failures_in writer.new) result }
 {
     let check = file_options(limit, asked).check;
     check_run_with(rt, alloc, reader, writer, cutting, &OpenGate, check)
