@@ -234,6 +234,19 @@ def unread():
     return [] if found == wanted else [f"these do not compile: {found}; and should not: {wanted}"]
 
 
+def unbegun():
+    """What is wrong with what is said of a wrong body that compiles, if its check cannot begin, as a crate below is not built."""
+    with tempfile.TemporaryDirectory() as room:
+        write_crate(room, ["lib.next.no-step"])
+        os.makedirs(f"{room}/crates/low/src")
+        for file, text in [("crates.txt", "low:\nfew: low\n"), ("crates/low/src/lib.rt", "//! Nothing.\n")]:
+            with open(f"{room}/{file}", "w", encoding="utf-8") as out:
+                out.write(text)
+        crate = rt.Crate(f"{room}/crates/few", room, {})
+        found = list(map(name_of, wrong_bodies.uncompiled(crate, rt.edits_of(crate)[0])))
+    return [] if found == ["lib.next.no-step"] else [f"these do not compile where nothing can be checked: {found}"]
+
+
 def tasks_of(parts, tried):
     """Tasks as the toolchain's gate has them, each of whose parts gives what it is given here, and which note themselves when they begin.
     All wait for the first, and earlier ones have more lines."""
@@ -273,7 +286,7 @@ def main():
     rt.rtlib.guarded()
     passed = failed = 0
     more = ""
-    tries = [crowded(), *(misjudged(*it) for it in RUNS), misled(), unread()]
+    tries = [crowded(), *(misjudged(*it) for it in RUNS), misled(), unread(), unbegun()]
     if wrong_bodies.KEEPS:
         tries.append(forgotten())
     else:

@@ -416,8 +416,9 @@ def uncompiled(crate, edits):
     with tempfile.TemporaryDirectory(prefix="wrong-bodies-") as kept:
 
         def error_in(texts):
-            said = tried.checked(texts, ["--jobs", "1", "--only", ""], kept)
-            return next((it for it in said.split("\n") if BROKEN.search(it) or rt.unread(it, texts)), None)
+            lines = tried.checked(texts, ["--jobs", "1", "--only", ""], kept).strip().split("\n")
+            broken = next((it for it in lines if BROKEN.search(it) or rt.unread(it, texts)), None)
+            return broken or (None if lines[-1].startswith("only=") else f"the check did not end: {lines[-1]}")
 
         for check in checks_of(tried, wrongs):
             together = tried.together(check)
@@ -432,12 +433,14 @@ def compile_all(names):
     known, status = {}, 0
     for name in names:
         crate = rt.Crate(f"{TOP}/crates/{name}", TOP, known)
-        edits = rt.edits_of(crate)[0]
+        edits, others = rt.edits_of(crate)
         broken = uncompiled(crate, edits)
+        for file in others:
+            print(f"must-fail {name}/{os.path.basename(file)}: is not the name of a wrong body", flush=True)
         for edit, line in broken.items():
             print(f"must-fail {name}/{os.path.basename(edit)}: does not compile: {line[:200]}", flush=True)
         print(f"{name}: {len(edits) - len(broken)} of {len(edits)} wrong bodies compile", flush=True)
-        status |= bool(broken)
+        status |= bool(broken) or bool(others)
     return status
 
 

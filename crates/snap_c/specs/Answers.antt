@@ -4,8 +4,9 @@ use Rattle.snap_core.specs.Limits.{IsLimit}
 use Rattle.snap_check.specs.declared.status.Status.{Status}
 use Rattle.snap_check.specs.Statuses.{code_of}
 use Rattle.snap_check.specs.Reports.{IsReport}
-use Rattle.snap_c.specs.declared.question.Question.{Question}
-use Rattle.snap_c.specs.Questions.{IsAnswerTo, IsCertain}
+use Rattle.snap_runs.specs.Answers.{IsCertain}
+use Rattle.snap_c.specs.declared.question.Asked.{Asked}
+use Rattle.snap_c.specs.Questions.{IsAnswer}
 
 -- the whole answer is at the front of the room, and after it is what was there before
 pub record IsFilled (Is : Option Status → List ℕ → Type 0) (old new : List ℕ) (needed code : ℕ) : Type 0 where
@@ -56,11 +57,11 @@ IsChecked limit text = IsAnswered (IsCertain (IsReport limit text))
 abbrev pub IsCheckedFor : ℕ → List ℕ → List ℕ → List ℕ → ℕ → ℕ → Type 0
 IsCheckedFor events text = IsWithin events (IsChecked events text)
 
--- the answer to a question, or that there is no such question
-abbrev pub IsAnsweredTo : ℕ → Option Question → List ℕ → List ℕ → List ℕ → ℕ → ℕ → Type 0
-IsAnsweredTo limit (Some question) text old new needed code = IsAnswered (IsAnswerTo question limit text) old new needed code
+-- the answer to what is asked, or that nothing is
+abbrev pub IsAnsweredTo : ℕ → Option Asked → List ℕ → List ℕ → List ℕ → ℕ → ℕ → Type 0
+IsAnsweredTo limit (Some asked) text old new needed code = IsAnswered (IsAnswer asked limit text) old new needed code
 IsAnsweredTo limit None text old new needed code = IsUnwritten 7 old new needed code
 
--- the answer to a question, if there is such a limit of events and such a question
-abbrev pub IsAnsweredFor : ℕ → Option Question → List ℕ → List ℕ → List ℕ → ℕ → ℕ → Type 0
-IsAnsweredFor events question text = IsWithin events (IsAnsweredTo events question text)
+-- the answer to what is asked, if there is such a limit of events and something is asked
+abbrev pub IsAnsweredFor : ℕ → Option Asked → List ℕ → List ℕ → List ℕ → ℕ → ℕ → Type 0
+IsAnsweredFor events asked text = IsWithin events (IsAnsweredTo events asked text)

@@ -1,66 +1,55 @@
 -- What may be asked of a text, and what the program answers to that.
 use Rattle.std.specs.Prelude.{ℕ, ◌-◌, ◌==◌, ◌||◌, List, [], ◌∷◌, codes, Option, Some, None, if◌then◌else◌, nat_lt, slice_get}
-use Rattle.std.specs.Str.Lossy.{utf8_lossy}
+use Rattle.std.proofs.Common.{Bor}
 use Rattle.snap_options.specs.declared.limits.TheConstants.{FAULT_LIMIT, LINE_CALLS, MOST_CALLS}
 use Rattle.snap_draw.specs.declared.window.Place.{Place}
 use Rattle.snap_draw.specs.declared.window.Place.TheVariants.{Faults, From, Around}
 use Rattle.snap_draw.specs.declared.window.Window.{Window}
 use Rattle.snap_draw.specs.Window.{usual_lines, usual_page}
 use Rattle.snap_options.specs.declared.scheme.Scheme.TheVariants.{Light, Dark}
+use Rattle.snap_explain.specs.declared.view.Entries.{Entries}
 use Rattle.snap_explain.specs.declared.view.Entries.TheVariants.{OfFault, Whole}
 use Rattle.snap_check.specs.declared.status.Status.{Status}
 use Rattle.snap_check.specs.Reports.{IsReport}
-use Rattle.snap_runs.specs.Telling.{IsTold}
-use Rattle.snap_runs.specs.Explaining.{IsExplained}
-use Rattle.snap_runs.specs.Mapping.{IsMapped}
-use Rattle.snap_runs.specs.Shrinking.{IsShrunk}
-use Rattle.snap_runs.specs.Stats.{IsCounted}
-use Rattle.snap_runs.specs.Drawing.{IsDrawn}
-use Rattle.snap_runs.specs.WitnessDrawing.{IsWitnessDrawn}
-use Rattle.snap_runs.specs.Markups.{is_lines, is_page, is_svg}
-use Rattle.snap_c.specs.declared.question.Question.{Question}
-use Rattle.snap_c.specs.declared.question.Question.TheVariants.{Report, Explanation, ExplanationDrawn, Object, Witness, WitnessDrawn, WitnessMap, Page, Svg, Lines, Counts, CountsObject}
-
--- an answer that has a status
-abbrev pub IsCertain : (Status → List ℕ → Type 0) → Option Status → List ℕ → Type 0
-IsCertain Is (Some status) out = Is status out
-IsCertain Is None out = ⊥
+use Rattle.snap_runs.specs.Answers.{IsAnswerTo, IsCertain, IsCountsObject}
+use Rattle.snap_runs.specs.declared.question.Question.TheVariants.{Explanation, ExplanationDrawn, Object, Witness, WitnessDrawn, WitnessMap, Page, Svg, Lines, Counts}
+use Rattle.snap_c.specs.declared.question.Asked.{Asked}
+use Rattle.snap_c.specs.declared.question.Asked.TheVariants.{Report, Of, InputCounts}
 
 -- The status of a text and what is written of it, as the command does it. A history may have up to limit events. A window may name a
 -- call that the history lacks; then there is no status.
-abbrev pub IsAnswerTo : Question → ℕ → List ℕ → Option Status → List ℕ → Type 0
-IsAnswerTo Report limit text = IsCertain (IsReport limit text)
-IsAnswerTo (Explanation listed faults) limit text = IsCertain (IsExplained limit listed faults text)
-IsAnswerTo (ExplanationDrawn listed) limit text = IsDrawn limit usual_lines 0 listed is_lines text
-IsAnswerTo (Object name) limit text = IsCertain (IsTold limit (utf8_lossy name.now) 0 text)
-IsAnswerTo Witness limit text = IsCertain (IsShrunk limit text)
-IsAnswerTo WitnessDrawn limit text = IsCertain (IsWitnessDrawn limit usual_lines 0 OfFault is_lines text)
-IsAnswerTo WitnessMap limit text = IsCertain (IsMapped limit text)
-IsAnswerTo (Page scheme window) limit text = IsDrawn limit window MOST_CALLS OfFault is_page text
-IsAnswerTo (Svg scheme window) limit text = IsDrawn limit window 0 OfFault is_svg text
-IsAnswerTo (Lines window) limit text = IsDrawn limit window 0 OfFault is_lines text
-IsAnswerTo Counts limit text = IsCertain (IsCounted None limit text)
-IsAnswerTo CountsObject limit text = IsCertain (IsCounted (Some (codes "-")) limit text)
+abbrev pub IsAnswer : Asked → ℕ → List ℕ → Option Status → List ℕ → Type 0
+IsAnswer Report limit text = IsCertain (IsReport limit text)
+IsAnswer (Of question) limit text = IsAnswerTo question limit text
+IsAnswer InputCounts limit text = IsCountsObject (codes "-") limit text
 
--- the questions that a number chooses among, counted from 0
+-- the answer to `explain`, which lists these entries of the views of a fault, by this many faults of a kind
+abbrev pub explained : Entries → ℕ → Asked
+explained listed faults = Of (Explanation (record { listed = listed; faults = faults }))
 
-abbrev pub explanations : List Question
-explanations = Explanation OfFault 1 ∷ ExplanationDrawn OfFault ∷ Explanation Whole 1 ∷ ExplanationDrawn Whole ∷ []
+-- the object of a text with a name, whatever its history has shown
+abbrev pub object_asked : Bor (List ℕ) → Asked
+object_asked name = Of (Object (record { name = name; views = 0 }))
+
+-- what a number chooses among, counted from 0
+
+abbrev pub explanations : List Asked
+explanations = explained OfFault 1 ∷ Of (ExplanationDrawn OfFault) ∷ explained Whole 1 ∷ Of (ExplanationDrawn Whole) ∷ []
 
 -- explanations by at least one fault of a kind, and at most as many as the limit
-abbrev pub explanation_of : ℕ → ℕ → Option Question
-explanation_of whole faults = if (faults == 0) || nat_lt FAULT_LIMIT faults then None else slice_get (Explanation OfFault faults ∷ Explanation Whole faults ∷ []) whole
+abbrev pub explanation_of : ℕ → ℕ → Option Asked
+explanation_of whole faults = if (faults == 0) || nat_lt FAULT_LIMIT faults then None else slice_get (explained OfFault faults ∷ explained Whole faults ∷ []) whole
 
-abbrev pub witnesses : List Question
-witnesses = Witness ∷ WitnessDrawn ∷ WitnessMap ∷ []
+abbrev pub witnesses : List Asked
+witnesses = Of Witness ∷ Of WitnessDrawn ∷ Of WitnessMap ∷ []
 
 -- the pictures of a window
-abbrev pub pictures : Window → List Question
+abbrev pub pictures : Window → List Asked
 pictures window =
-    Page None window ∷ Svg Light window ∷ Lines window ∷ Page (Some Light) window ∷ Page (Some Dark) window ∷ Svg Dark window ∷ []
+    Of (Page None window) ∷ Of (Svg Light window) ∷ Of (Lines window) ∷ Of (Page (Some Light) window) ∷ Of (Page (Some Dark) window) ∷ Of (Svg Dark window) ∷ []
 
-abbrev pub counts : List Question
-counts = Counts ∷ CountsObject ∷ []
+abbrev pub counts : List Asked
+counts = Of (Counts None) ∷ InputCounts ∷ []
 
 -- the most calls that a form may be asked for, and its usual window; the form of lines has number 2
 
@@ -90,6 +79,6 @@ window_asked form calls from around =
     if nat_lt (most_calls form) (calls_asked form calls) then None else window_at (calls_asked form calls) (place_asked from around)
 
 -- the picture that is asked for, if there are such a form and such a window
-abbrev pub picture_asked : ℕ → Option Window → Option Question
+abbrev pub picture_asked : ℕ → Option Window → Option Asked
 picture_asked form None = None
 picture_asked form (Some window) = slice_get (pictures window) form

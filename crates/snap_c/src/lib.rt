@@ -4,18 +4,18 @@
 ghost use Rattle.std.specs.Prelude.{◌≡◌, Some, slice_get};
 ghost use Rattle.snap_core.specs.Limits.{event_limit};
 ghost use Rattle.snap_c.specs.Answers.{IsAnswered, IsAnsweredFor, IsChecked, IsCheckedFor};
-ghost use Rattle.snap_c.specs.Questions.{IsAnswerTo, counts, explanation_of as spec_explanation_of, explanations, picture_asked as spec_picture_asked, usual_window as spec_usual_window, window_asked as spec_window_asked, witnesses};
-ghost use Rattle.snap_c.specs.declared.question.Question.TheVariants.{Object};
+ghost use Rattle.snap_c.specs.Questions.{IsAnswer, counts, explanation_of as spec_explanation_of, explanations, object_asked, picture_asked as spec_picture_asked, usual_window as spec_usual_window, window_asked as spec_window_asked, witnesses};
 ghost use Rattle.snap_c.specs.declared.version.TheConstants.{VERSION as version};
 
 mod question;
 mod version;
 
 use question::{
-    Question, answer_to, chosen, explanation_of, picture_asked, usual_window, window_asked,
+    Asked, answer_of, chosen, explained, explanation_of, picture_asked, usual_window, window_asked,
 };
 use snap_core::Limit;
 use snap_explain::Entries;
+use snap_runs::{Named, Question};
 use std::alloc::Global;
 use version::VERSION;
 
@@ -31,18 +31,18 @@ const NO_LIMIT: u32 = 6;
 /// The answer if an option is out of its range.
 const NO_OPTION: u32 = 7;
 
-// Answers a question on a text whose history may have as many events as the limit says.
+// Answers what is asked of a text whose history may have as many events as the limit says.
 fn answer(
     alloc: Global,
-    question: Question<'_>,
+    asked: Asked<'_>,
     text: &[u8],
     limit: Limit,
     out: &mut [u8],
     length: &mut usize,
 ) -> u32
-    ensures { IsAnswered (IsAnswerTo question.entry limit.events text.now) out.old out.new length.new result }
+    ensures { IsAnswered (IsAnswer asked.entry limit.events text.now) out.old out.new length.new result }
 {
-    match answer_to(alloc, question, text, limit) {
+    match answer_of(alloc, asked, text, limit) {
         Ok((Some(status), answer)) => {
             let needed = answer.len();
             *length = needed;
@@ -63,23 +63,23 @@ fn answer(
     }
 }
 
-// Answers a question on a text, if there is such a limit of events and such a question.
+// Answers what is asked of a text, if there is such a limit of events and something is asked.
 fn answer_within(
     alloc: Global,
-    question: Option<Question<'_>>,
+    asked: Option<Asked<'_>>,
     text: &[u8],
     events: u32,
     out: &mut [u8],
     length: &mut usize,
 ) -> u32
-    ensures { IsAnsweredFor events question.entry text.now out.old out.new length.new result }
+    ensures { IsAnsweredFor events asked.entry text.now out.old out.new length.new result }
 {
     *length = 0;
     let Some(limit) = Limit::new(events) else {
         return NO_LIMIT;
     };
-    match question {
-        Some(question) => answer(alloc, question, text, limit, out, length),
+    match asked {
+        Some(asked) => answer(alloc, asked, text, limit, out, length),
         None => NO_OPTION,
     }
 }
@@ -98,7 +98,7 @@ pub extern "C" fn snapjudge_check(
     ensures { IsChecked event_limit text.now report.old report.new length.new result }
 {
     let usual = Limit::usual();
-    answer(alloc, Question::Report, text, usual, report, length)
+    answer(alloc, Asked::Report, text, usual, report, length)
 }
 
 /// Judges a text as `snapjudge_check` does, but a history may have `events` events in place of 65,536, and its text 1,024 times as
@@ -113,7 +113,7 @@ pub extern "C" fn snapjudge_check_limit(
 ) -> u32
     ensures { IsCheckedFor events text.now report.old report.new length.new result }
 {
-    answer_within(alloc, Some(Question::Report), text, events, report, length)
+    answer_within(alloc, Some(Asked::Report), text, events, report, length)
 }
 
 /// Explains a text as `snapjudge explain` does if `form` is 0, and as `snapjudge explain --draw` if it is 1. If it is 2 or 3, the views of
@@ -132,10 +132,10 @@ pub extern "C" fn snapjudge_explain(
 {
     let asked = chosen(
         &[
-            Question::Explanation(Entries::OfFault, 1),
-            Question::ExplanationDrawn(Entries::OfFault),
-            Question::Explanation(Entries::Whole, 1),
-            Question::ExplanationDrawn(Entries::Whole),
+            explained(Entries::OfFault, 1),
+            Asked::Of(Question::ExplanationDrawn(Entries::OfFault)),
+            explained(Entries::Whole, 1),
+            Asked::Of(Question::ExplanationDrawn(Entries::Whole)),
         ],
         form,
     );
@@ -172,10 +172,10 @@ pub extern "C" fn snapjudge_json(
     out: &mut [u8],
     length: &mut usize,
 ) -> u32
-    ensures { IsAnsweredFor events (Some (Object name.entry)) text.now out.old out.new length.new result }
+    ensures { IsAnsweredFor events (Some (object_asked name.entry)) text.now out.old out.new length.new result }
 {
-    let asked = Some(Question::Object(name));
-    answer_within(alloc, asked, text, events, out, length)
+    let asked = Asked::Of(Question::Object(Named { name, views: 0 }));
+    answer_within(alloc, Some(asked), text, events, out, length)
 }
 
 /// Cuts a history down to a witness as `snapjudge shrink` does if `form` is 0. If it is 1, it draws the witness as
@@ -194,9 +194,9 @@ pub extern "C" fn snapjudge_shrink(
 {
     let asked = chosen(
         &[
-            Question::Witness,
-            Question::WitnessDrawn,
-            Question::WitnessMap,
+            Asked::Of(Question::Witness),
+            Asked::Of(Question::WitnessDrawn),
+            Asked::Of(Question::WitnessMap),
         ],
         form,
     );
@@ -257,7 +257,10 @@ pub extern "C" fn snapjudge_stats(
 ) -> u32
     ensures { IsAnsweredFor events (slice_get counts form) text.now out.old out.new length.new result }
 {
-    let asked = chosen(&[Question::Counts, Question::CountsObject], form);
+    let asked = chosen(
+        &[Asked::Of(Question::Counts(None)), Asked::InputCounts],
+        form,
+    );
     answer_within(alloc, asked, text, events, out, length)
 }
 

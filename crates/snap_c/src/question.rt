@@ -1,61 +1,43 @@
 //! What may be asked of a text, and the answer.
-ghost use Rattle.std.specs.Prelude.{◌≡◌, IfOk, Some, slice_get};
-ghost use Rattle.std.specs.Str.Lossy.{utf8_lossy};
-ghost use Rattle.snap_check.specs.Runs.{JudgesBy};
-ghost use Rattle.snap_core.specs.Counting.{inner_of};
-ghost use Rattle.snap_runs.specs.Telling.{IsTold};
-ghost use Rattle.snap_c.specs.Questions.{IsAnswerTo, calls_asked as spec_calls_asked, explanation_of as spec_explanation_of, most_calls as spec_most_calls, picture_asked as spec_picture_asked, place_asked as spec_place_asked, usual_window as spec_usual_window, window_asked as spec_window_asked};
+ghost use Rattle.std.specs.Prelude.{◌≡◌, IfOk, slice_get};
+ghost use Rattle.snap_c.specs.Questions.{IsAnswer, calls_asked as spec_calls_asked, explained as spec_explained, explanation_of as spec_explanation_of, most_calls as spec_most_calls, picture_asked as spec_picture_asked, place_asked as spec_place_asked, usual_window as spec_usual_window, window_asked as spec_window_asked};
 
 use snap_check::{Alone, RunFault, Status, judge_text};
 use snap_core::{Counted, Limit};
 use snap_draw::{Place, Window};
-use snap_explain::Entries;
+use snap_explain::{Detail, Entries};
 use snap_options::{FAULT_LIMIT, LINE_CALLS, MOST_CALLS, Scheme};
-use snap_runs::{
-    Explained, Lines, Page, Svg, draw_input, draw_witness_input, explain_input, map_input,
-    shrink_input, stats_input, tell_input,
-};
+use snap_runs::{Question, answer_to};
 use std::alloc::Global;
 
-/// What may be asked of a text. The answer to each is that of a command of the program.
-#[derive(Clone, Copy, Debug)]
-pub(crate) enum Question<'n> {
+/// What may be asked of a text. The answer is that of a command of the program.
+#[derive(Clone, Copy)]
+pub(crate) enum Asked<'n> {
     /// `check`
     Report,
-    /// `explain --faults N` with this N, or with `--all`
-    Explanation(Entries, u32),
-    /// `explain --draw`, or `explain --all --draw`
-    ExplanationDrawn(Entries),
-    /// `check --format json` of a file with this name
-    Object(&'n [u8]),
-    /// `shrink`
-    Witness,
-    /// `shrink --draw`
-    WitnessDrawn,
-    /// `shrink --map`
-    WitnessMap,
-    /// `draw`, `draw --light`, or `draw --dark`, of a window
-    Page(Option<Scheme>, Window),
-    /// `draw --svg`, or `draw --svg --dark`, of a window
-    Svg(Scheme, Window),
-    /// `draw --text`, of a window
-    Lines(Window),
-    /// `stats`
-    Counts,
-    /// `stats --format json` of standard input
-    CountsObject,
+    /// The command of a question.
+    Of(Question<'n>),
+    /// `stats --format json` of standard input, whose name in an object is `-`
+    InputCounts,
 }
 
-/// The question of a number among some, counted from 0. None if there is no such question.
-pub(crate) fn chosen<'n>(questions: &[Question<'n>], number: u32) -> Option<Question<'n>>
-    ensures { result ≡ slice_get questions.now number }
+/// What a number asks for among some, counted from 0. None if there is no such number.
+pub(crate) fn chosen<'n>(asked: &[Asked<'n>], number: u32) -> Option<Asked<'n>>
+    ensures { result ≡ slice_get asked.now number }
 {
-    questions.get(number as usize).copied()
+    asked.get(number as usize).copied()
+}
+
+/// The explanation that lists these entries of the views of a fault, by this many faults of a kind.
+pub(crate) fn explained<'n>(listed: Entries, faults: u32) -> Asked<'n>
+    ensures { result ≡ spec_explained listed faults }
+{
+    Asked::Of(Question::Explanation(Detail { listed, faults }))
 }
 
 /// The explanation by this many faults of a kind: as by `--all` if `whole` is 1, and not if it is 0. None if it is more, and if the
 /// number of faults is not 1 to 1,000.
-pub(crate) fn explanation_of<'n>(whole: u32, faults: u32) -> Option<Question<'n>>
+pub(crate) fn explanation_of<'n>(whole: u32, faults: u32) -> Option<Asked<'n>>
     ensures { result ≡ spec_explanation_of whole faults }
 {
     if faults == 0 || FAULT_LIMIT < faults {
@@ -63,8 +45,8 @@ pub(crate) fn explanation_of<'n>(whole: u32, faults: u32) -> Option<Question<'n>
     }
     chosen(
         &[
-            Question::Explanation(Entries::OfFault, faults),
-            Question::Explanation(Entries::Whole, faults),
+            explained(Entries::OfFault, faults),
+            explained(Entries::Whole, faults),
         ],
         whole,
     )
@@ -139,7 +121,7 @@ pub(crate) fn window_asked(form: u32, calls: u32, from: u32, around: u32) -> Opt
 }
 
 /// The picture of a window that a form asks for, if there is such a form and such a window.
-pub(crate) fn picture_asked<'n>(form: u32, window: Option<Window>) -> Option<Question<'n>>
+pub(crate) fn picture_asked<'n>(form: u32, window: Option<Window>) -> Option<Asked<'n>>
     ensures { result ≡ spec_picture_asked form window }
 {
     let Some(window) = window else {
@@ -147,89 +129,37 @@ pub(crate) fn picture_asked<'n>(form: u32, window: Option<Window>) -> Option<Que
     };
     chosen(
         &[
-            Question::Page(None, window),
-            Question::Svg(Scheme::Light, window),
-            Question::Lines(window),
-            Question::Page(Some(Scheme::Light), window),
-            Question::Page(Some(Scheme::Dark), window),
-            Question::Svg(Scheme::Dark, window),
+            Asked::Of(Question::Page(None, window)),
+            Asked::Of(Question::Svg(Scheme::Light, window)),
+            Asked::Of(Question::Lines(window)),
+            Asked::Of(Question::Page(Some(Scheme::Light), window)),
+            Asked::Of(Question::Page(Some(Scheme::Dark), window)),
+            Asked::Of(Question::Svg(Scheme::Dark, window)),
         ],
         form,
     )
 }
 
-// An answer that has a status.
-fn certain(answer: (Status, Vec<u8>)) -> (Option<Status>, Vec<u8>)
-    ensures { result ≡ (Some answer.0, answer.1) }
-{
-    let (status, text) = answer;
-    (Some(status), text)
-}
-
-// The status and the object of the text that a reader has. In its name U+FFFD replaces what is not UTF-8.
-fn told(
-    alloc: Global,
-    name: &[u8],
-    reader: &mut Counted<&[u8]>,
-    limit: Limit,
-) -> Result<(Status, Vec<u8>), RunFault>
-    ensures { JudgesBy (IsTold limit.events (utf8_lossy name.now) 0) (Some (inner_of reader.old).now) result }
-{
-    let name = String::from_utf8_lossy(alloc, name)?;
-    tell_input(&Alone, alloc, &name, reader, 0, limit)
-}
-
-/// The answer to a question on a text in memory, on the calling thread alone. A history may have as many events as the limit says.
+/// The answer to what is asked of a text in memory, on the calling thread alone. A history may have as many events as the limit says.
 /// There is no status if a window names a call that the history lacks.
-pub(crate) fn answer_to(
+pub(crate) fn answer_of(
     alloc: Global,
-    question: Question<'_>,
+    asked: Asked<'_>,
     text: &[u8],
     limit: Limit,
 ) -> Result<(Option<Status>, Vec<u8>), RunFault>
-    ensures { IfOk result (λ answer. IsAnswerTo question.entry limit.events text.now answer.0 answer.1.items) }
+    ensures { IfOk result (λ answer. IsAnswer asked.entry limit.events text.now answer.0 answer.1.items) }
 {
     let mut reader = Counted::new(text);
-    let reader = &mut reader;
-    match question {
-        Question::Report => Ok(certain(judge_text(alloc, text, limit)?)),
-        Question::Explanation(listed, faults) => {
-            Ok(certain(explain_input(&Alone, alloc, reader, listed, faults, limit)?))
+    match asked {
+        Asked::Report => {
+            let (status, report) = judge_text(alloc, text, limit)?;
+            Ok((Some(status), report))
         }
-        Question::ExplanationDrawn(listed) => {
-            draw_input(&Alone, alloc, &Explained { listed }, reader, limit)
+        Asked::Of(question) => answer_to(&Alone, alloc, question, &mut reader, limit),
+        Asked::InputCounts => {
+            let question = Question::Counts(Some(b"-"));
+            answer_to(&Alone, alloc, question, &mut reader, limit)
         }
-        Question::Object(name) => Ok(certain(told(alloc, name, reader, limit)?)),
-        Question::Witness => Ok(certain(shrink_input(&Alone, alloc, reader, limit)?)),
-        Question::WitnessDrawn => {
-            let lines = Lines {
-                window: Window::usual_lines(),
-            };
-            Ok(certain(draw_witness_input(&Alone, alloc, &lines, reader, limit)?))
-        }
-        Question::WitnessMap => Ok(certain(map_input(&Alone, alloc, reader, limit)?)),
-        Question::Page(scheme, window) => draw_input(
-            &Alone,
-            alloc,
-            &Page { scheme, window },
-            reader,
-            limit,
-        ),
-        Question::Svg(scheme, window) => draw_input(
-            &Alone,
-            alloc,
-            &Svg { scheme, window },
-            reader,
-            limit,
-        ),
-        Question::Lines(window) => draw_input(&Alone, alloc, &Lines { window }, reader, limit),
-        Question::Counts => Ok(certain(stats_input(&Alone, alloc, None, reader, limit)?)),
-        Question::CountsObject => Ok(certain(stats_input(
-            &Alone,
-            alloc,
-            Some("-"),
-            reader,
-            limit,
-        )?)),
     }
 }

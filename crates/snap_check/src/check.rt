@@ -1,52 +1,40 @@
 //! A check, from a reader to a writer.
-ghost use Rattle.std.specs.Prelude.{◌≡◌, [], IfOk, IfSome, IsSome};
-ghost use Rattle.snap_core.specs.Calls.{calls_of, views_of};
+ghost use Rattle.std.specs.Prelude.{◌≡◌, IfOk, IsSome};
 ghost use Rattle.snap_core.specs.Counting.{failures_in, inner_of};
-ghost use Rattle.snap_views.specs.Chains.{IsViewChain};
-ghost use Rattle.snap_theory.specs.Faults.{read_faults};
-ghost use Rattle.snap_conditions.specs.Tally.{tally_of};
 ghost use Rattle.snap_check.specs.Options.{IsReportWith, IsVerdictWith, IsWritten};
 ghost use Rattle.snap_check.specs.Runs.{JudgeCounts, JudgesBy, RunCounts, Wrote, WroteBy};
 
 use crate::fault::RunFault;
-use crate::judge::{brief_verdict_of, verdict_of_chain};
-use crate::judging::Workers;
-use crate::options::CheckOptions;
+use crate::judge::{brief_verdict_of, order_by, verdict_of};
+use crate::options::{CheckOptions, Checking};
 use crate::reading::{Reading, read_in};
 use crate::status::Status;
 use crate::workers::cutting_for;
-use snap_conditions::Tally;
 use snap_core::{Counted, Gate, History};
 use snap_index::Index;
 use snap_pairs::tally_and_chain;
 use snap_threads::Cutting;
-use snap_views::ViewChain;
 use std::alloc::{AllocError, Global};
 use std::io::{Read, Write};
 use std::thread::Threads;
 
-// The status of a history and its report; if quiet, only the lines of the verdicts. The history comes as its index, with the tally
-// of its completed views. The views come as a chain if no two of them are a read fault.
-fn written_of<Rt: Threads + Sync>(
+// The status of a history by its index, and what is written of its report, in the memory of a vector.
+fn judged<Rt: Threads + Sync, G: Gate>(
     rt: &Rt,
     alloc: Global,
     index: &Index<'_>,
-    tally: &Tally,
-    chain: Option<ViewChain>,
     room: Vec<u8>,
-    workers: u32,
-    quiet: bool,
+    checking: &Checking<'_, G>,
 ) -> Result<(Status, Vec<u8>), AllocError>
-    requires tally { tally.now ≡ tally_of (calls_of index.now) (views_of (calls_of index.now)) }
-    requires chain { IfSome chain (IsViewChain (calls_of index.now)) }
-    requires given { read_faults (calls_of index.now) (views_of (calls_of index.now)) ≡ [] → IsSome chain }
-    ensures { IfOk result (λ answer. IsWritten quiet index.now answer.0 answer.1.items) }
+    ensures { IfOk result (λ answer. IsWritten checking.now.options.quiet index.now answer.0 answer.1.items) }
 {
-    if quiet {
-        brief_verdict_of(alloc, index, tally)
-    } else {
-        verdict_of_chain(rt, alloc, index, tally, chain, room, workers)
+    let (tally, chain) = tally_and_chain(rt, alloc, index, checking.cutting, checking.gate)?;
+    if checking.options.quiet {
+        return brief_verdict_of(alloc, index, &tally);
     }
+    let workers = checking.cutting.workers();
+    let order = order_by(rt, alloc, index, &tally, chain, workers)?;
+    verdict_of(rt, index, &tally, order.as_deref(), room, workers)
 }
 
 /// The status of a history, and what is written of its report, in the memory of a vector. The answer has no status if the history
@@ -56,28 +44,15 @@ pub fn verdict<Rt: Threads + Sync, G: Gate>(
     alloc: Global,
     history: &History,
     room: Vec<u8>,
-    cutting: Cutting,
-    gate: &G,
-    options: CheckOptions,
+    checking: &Checking<'_, G>,
 ) -> Result<(Option<Status>, Vec<u8>), AllocError>
-    ensures { IfOk result (λ answer. IsVerdictWith options history.now.events answer.0 answer.1.items) }
+    ensures { IfOk result (λ answer. IsVerdictWith checking.now.options history.now.events answer.0 answer.1.items) }
 {
     let index = Index::build(alloc, history)?;
-    if index.view_count() < options.views {
+    if index.view_count() < checking.options.views {
         return Ok((None, Vec::new(alloc)));
     }
-    let (tally, chain) = tally_and_chain(rt, alloc, &index, cutting, gate)?;
-    let workers = cutting.workers();
-    let (status, text) = written_of(
-        rt,
-        alloc,
-        &index,
-        &tally,
-        chain,
-        room,
-        workers,
-        options.quiet,
-    )?;
+    let (status, text) = judged(rt, alloc, &index, room, checking)?;
     Ok((Some(status), text))
 }
 
@@ -86,26 +61,28 @@ fn judge<Rt: Threads + Sync, R: Read, G: Gate>(
     rt: &Rt,
     alloc: Global,
     reader: &mut Counted<R>,
-    cutting: Cutting,
-    gate: &G,
-    options: CheckOptions,
+    checking: &Checking<'_, G>,
 ) -> Result<(Option<Status>, Vec<u8>), RunFault>
-    ensures answer { JudgesBy (IsReportWith options) (R.remaining (inner_of reader.old)) result }
+    ensures answer { JudgesBy (IsReportWith checking.now.options) (R.remaining (inner_of reader.old)) result }
     ensures counts { JudgeCounts (failures_in reader.old) (failures_in reader.new) result }
-    ensures given { options.views ≡ 0 → IfOk result (λ answer. IsSome answer.0) }
+    ensures given { checking.now.options.views ≡ 0 → IfOk result (λ answer. IsSome answer.0) }
 {
     // the text is not needed after it is read, and its memory serves for the report
     let mut room = Vec::new(alloc);
-    let workers = Workers {
-        rt,
+    let Checking {
         cutting,
-        alone_below: options.alone_below,
-        finer: options.finer,
-    };
-    match read_in(&workers, alloc, reader, &mut room, options.limit)? {
+        gate,
+        options,
+    } = *checking;
+    match read_in(rt, alloc, reader, &mut room, options.limit, cutting)? {
         Reading::History(history) => {
             let cutting = cutting_for(room.len(), options.alone_below, options.finer, cutting);
-            Ok(verdict(rt, alloc, &history, room, cutting, gate, options)?)
+            let checking = Checking {
+                cutting,
+                gate,
+                options,
+            };
+            Ok(verdict(rt, alloc, &history, room, &checking)?)
         }
         Reading::Refusal(line) => Ok((Some(Status::Refused), line)),
     }
@@ -125,15 +102,13 @@ pub fn check_run_with<Rt: Threads + Sync, R: Read, W: Write, G: Gate>(
     alloc: Global,
     reader: &mut Counted<R>,
     writer: &mut Counted<W>,
-    cutting: Cutting,
-    gate: &G,
-    options: CheckOptions,
+    checking: &Checking<'_, G>,
 ) -> Result<Option<Status>, RunFault>
-    ensures wrote { WroteBy (IsReportWith options) (R.remaining (inner_of reader.old)) (W.contents (inner_of writer.old)) (W.contents (inner_of writer.new)) result }
+    ensures wrote { WroteBy (IsReportWith checking.now.options) (R.remaining (inner_of reader.old)) (W.contents (inner_of writer.old)) (W.contents (inner_of writer.new)) result }
     ensures counts { RunCounts (failures_in reader.old) (failures_in reader.new) (failures_in writer.old) (failures_in writer.new) result }
-    ensures given { options.views ≡ 0 → IfOk result (λ status. IsSome status) }
+    ensures given { checking.now.options.views ≡ 0 → IfOk result (λ status. IsSome status) }
 {
-    let (status, text) = judge(rt, alloc, reader, cutting, gate, options)?;
+    let (status, text) = judge(rt, alloc, reader, checking)?;
     match writer.send(&text) {
         Ok(()) => Ok(status),
         Err(_) => Err(RunFault::Write),
@@ -158,7 +133,12 @@ pub fn check_run<Rt: Threads + Sync, R: Read, W: Write, G: Gate>(
     ensures counts { RunCounts (failures_in reader.old) (failures_in reader.new) (failures_in writer.old) (failures_in writer.new) result }
 {
     let options = CheckOptions::plain();
-    match check_run_with(rt, alloc, reader, writer, cutting, gate, options) {
+    let checking = Checking {
+        cutting,
+        gate,
+        options,
+    };
+    match check_run_with(rt, alloc, reader, writer, &checking) {
         Ok(Some(status)) => Ok(status),
         // no number of views is less than 0
         Ok(None) => unreachable!(),

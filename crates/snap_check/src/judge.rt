@@ -22,10 +22,10 @@ use snap_views::ViewChain;
 use std::alloc::{AllocError, Global};
 use std::thread::Threads;
 
-// The status and the report of a history, by its index, the tally of all its completed views, and the numbers of its printed
-// order. The order is given exactly when the tally has no fault. At most `workers` workers share its lines. The report takes the
-// memory of a vector; what the vector had is lost.
-fn verdict_of<R: Threads + Sync>(
+/// The status and the report of a history, by its index, the tally of all its completed views, and the numbers of its printed
+/// order. The order is given exactly when the tally has no fault. At most `workers` workers share its lines. The report takes the
+/// memory of a vector; what the vector had is lost. The error is lack of memory.
+pub fn verdict_of<R: Threads + Sync>(
     rt: &R,
     index: &Index<'_>,
     tally: &Tally,
@@ -105,27 +105,6 @@ pub fn order_alone(
     }
     let Some(chain) = chain else { unreachable!() };
     Ok(Some(build_alone(alloc, index, chain)?))
-}
-
-/// The status and the report of a history, by its index, the tally of all its completed views, and these as a chain. The chain is
-/// given if no two of them are a read fault. At most `workers` workers share the calls and their lines. The report takes the
-/// memory of a vector; what the vector had is lost. The error is lack of memory.
-pub fn verdict_of_chain<R: Threads + Sync>(
-    rt: &R,
-    alloc: Global,
-    index: &Index<'_>,
-    tally: &Tally,
-    chain: Option<ViewChain>,
-    room: Vec<u8>,
-    workers: u32,
-) -> Result<(Status, Vec<u8>), AllocError>
-    requires tally { tally.now ≡ tally_of (calls_of index.now) (views_of (calls_of index.now)) }
-    requires chain { IfSome chain (IsViewChain (calls_of index.now)) }
-    requires given { read_faults (calls_of index.now) (views_of (calls_of index.now)) ≡ [] → IsSome chain }
-    ensures { IfOk result (λ answer. IsVerdict index.now answer.0 answer.1.items) }
-{
-    let order = order_by(rt, alloc, index, tally, chain, workers)?;
-    verdict_of(rt, index, tally, order.as_deref(), room, workers)
 }
 
 /// The status of a history, by its index and the tally of all its completed views.

@@ -1,11 +1,11 @@
 //! Who reads and judges a text.
-ghost use Rattle.std.specs.Prelude.{◌≡◌, ◌↔◌, [], IfOk, IfSome, IsSome, is_some, map, true};
+ghost use Rattle.std.specs.Prelude.{◌≡◌, ◌↔◌, [], IfOk, IfSome, IsSome, is_some, length, map, true};
 ghost use Rattle.std.specs.Option.{ForSome};
 ghost use Rattle.std.specs.Thread.{IsSync};
 ghost use Rattle.snap_core.specs.Calls.{calls_of, views_of};
 ghost use Rattle.snap_core.specs.Counting.{failures_in, inner_of};
 ghost use Rattle.snap_conditions.specs.Tally.{tally_of};
-ghost use Rattle.snap_csv.specs.Answers.{AnswersText, Counts};
+ghost use Rattle.snap_csv.specs.Answers.{AnswersRecords, Counts, Leaves};
 ghost use Rattle.snap_report.specs.Reports.{has_no_fault};
 ghost use Rattle.snap_theory.specs.Faults.{read_faults};
 ghost use Rattle.snap_theory.specs.Levels.{printed_order};
@@ -15,7 +15,7 @@ use crate::judge::{order_alone, order_by};
 use crate::workers::{SHARED_FROM, cutting_for};
 use snap_conditions::Tally;
 use snap_core::{Counted, History, Limit, OpenGate};
-use snap_csv::{ReadRefusal, read_history_with, read_records};
+use snap_csv::{ReadRefusal, read_records, read_records_with};
 use snap_index::Index;
 use snap_pairs::tally_and_chain;
 use snap_tally::tally_and_chain_alone;
@@ -30,17 +30,19 @@ pub trait Judging {
     // what it needs to share its work
     ghost ready: { Type 0 };
 
-    /// The history of the text that a reader has, as `read_history_with` reads it.
+    /// The history of the text that a reader has, and the number of each event's record, as `read_records` gives them.
     fn read<R: Read>(
         &self,
         alloc: Global,
         reader: &mut Counted<R>,
         room: &mut Vec<u8>,
         limit: Limit,
-    ) -> Result<History, ReadRefusal>
+    ) -> Result<(History, Vec<u32>), ReadRefusal>
         requires { ready }
-        ensures text { IfSome (R.remaining (inner_of reader.old)) (λ text. AnswersText limit.events text result) }
-        ensures counts { Counts (failures_in reader.old) (failures_in reader.new) result };
+        ensures text { IfSome (R.remaining (inner_of reader.old)) (λ text. AnswersRecords limit.events text result) }
+        ensures each { IfOk result (λ read. length read.1.items ≡ length read.0.events) }
+        ensures counts { Counts (failures_in reader.old) (failures_in reader.new) result }
+        ensures room { IfSome (R.remaining (inner_of reader.old)) (λ text. Leaves text room.new.items result) };
 
     /// The tally of all completed views of the history of a text of `bytes` bytes. The views come as a chain if and only if no two
     /// of them are a read fault.
@@ -85,9 +87,8 @@ impl Judging for Alone {
         reader: &mut Counted<R>,
         room: &mut Vec<u8>,
         limit: Limit,
-    ) -> Result<History, ReadRefusal> {
-        let (history, _records) = read_records(alloc, reader, room, limit)?;
-        Ok(history)
+    ) -> Result<(History, Vec<u32>), ReadRefusal> {
+        read_records(alloc, reader, room, limit)
     }
 
     fn tally_and_chain(
@@ -130,8 +131,8 @@ impl<Rt: Threads + Sync> Judging for Workers<'_, Rt> {
         reader: &mut Counted<R>,
         room: &mut Vec<u8>,
         limit: Limit,
-    ) -> Result<History, ReadRefusal> {
-        read_history_with(self.rt, alloc, reader, room, limit, self.cutting)
+    ) -> Result<(History, Vec<u32>), ReadRefusal> {
+        read_records_with(self.rt, alloc, reader, room, limit, self.cutting)
     }
 
     fn tally_and_chain(

@@ -3,6 +3,7 @@ ghost use Rattle.std.specs.Prelude.{◌≡◌, false};
 ghost use Rattle.snap_core.specs.Limits.{event_limit};
 
 use snap_core::Limit;
+use snap_threads::Cutting;
 
 /// What a check is asked for besides the report of a history.
 #[derive(Clone, Copy, Debug, PartialEq, Eq)]
@@ -17,6 +18,14 @@ pub struct CheckOptions {
     pub alone_below: usize,
     /// Whether a text that workers share has `SHARED_PIECES` pieces, and not those of the cutting.
     pub finer: bool,
+}
+
+/// How a text is checked: by a cutting, with a gate, and with options.
+#[derive(Drop)]
+pub struct Checking<'g, G> {
+    pub cutting: Cutting,
+    pub gate: &'g G,
+    pub options: CheckOptions,
 }
 
 impl CheckOptions {

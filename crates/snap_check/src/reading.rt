@@ -4,12 +4,13 @@ ghost use Rattle.snap_core.specs.Counting.{failures_in, inner_of};
 ghost use Rattle.snap_check.specs.Runs.{JudgeCounts, Reads};
 
 use crate::fault::RunFault;
-use crate::judging::Judging;
 use snap_core::{Counted, History, Limit};
-use snap_csv::ReadRefusal;
+use snap_csv::{ReadRefusal, read_history_with};
 use snap_report::refusal_text;
+use snap_threads::Cutting;
 use std::alloc::Global;
 use std::io::Read;
+use std::thread::Threads;
 
 /// What a text is: a history, or else the line of its first fault.
 #[derive(Drop)]
@@ -18,19 +19,20 @@ pub enum Reading {
     Refusal(Vec<u8>),
 }
 
-/// What the text of a reader is, by a limit of events. The text is left in a vector, whose memory can then serve for something else.
-pub fn read_in<J: Judging, R: Read>(
-    judging: &J,
+/// What the text of a reader is, by a limit of events. Workers of a cutting share the reading. The text is left in a vector, whose
+/// memory can then serve for something else.
+pub(crate) fn read_in<Rt: Threads + Sync, R: Read>(
+    rt: &Rt,
     alloc: Global,
     reader: &mut Counted<R>,
     room: &mut Vec<u8>,
     limit: Limit,
+    cutting: Cutting,
 ) -> Result<Reading, RunFault>
-    requires ready { J.ready }
     ensures text { IfSome (R.remaining (inner_of reader.old)) (λ text. IfOk result (λ reading. Reads limit.events text reading)) }
     ensures counts { JudgeCounts (failures_in reader.old) (failures_in reader.new) result }
 {
-    match judging.read(alloc, reader, room, limit) {
+    match read_history_with(rt, alloc, reader, room, limit, cutting) {
         Ok(history) => Ok(Reading::History(history)),
         Err(ReadRefusal::Text { place, fault }) => {
             Ok(Reading::Refusal(refusal_text(alloc, place, fault)?))

@@ -2,7 +2,6 @@
 //! and starts a run. Layers before the system show colours of the verdicts, and the progress of a check of many texts.
 #![tactic(auto)]
 
-mod drawing;
 mod failure;
 mod files;
 mod following;
@@ -10,13 +9,13 @@ mod names;
 mod outlet;
 mod painted;
 mod progress;
+mod questions;
 mod refusal;
 mod runs;
 mod shown;
 mod verdicts;
 mod watched;
 
-pub use drawing::draw;
 pub use failure::Failure;
 pub use files::{open_only, system};
 pub use following::follow;
@@ -24,8 +23,9 @@ pub use names::names_of;
 pub use outlet::Outlet;
 pub use painted::Painted;
 pub use progress::Progress;
+pub use questions::{explanation, witness};
 pub use refusal::too_few_views;
-pub use runs::{explain, record, shrink, stats};
+pub use runs::{answer, draw, record, stats};
 pub use shown::{in_colors, progress_of};
 pub use verdicts::send_painted;
 pub use watched::{Cleared, Watched};

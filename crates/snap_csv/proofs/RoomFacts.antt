@@ -9,6 +9,7 @@ use Rattle.snap_format.specs.declared.refusal.ReadRefusal.TheVariants as refusal
 use Rattle.snap_format.specs.Rows.{rows_of}
 use Rattle.snap_format.specs.Texts.{bytes_within}
 use Rattle.snap_format.specs.Taking.{AnswersRows, RefusesRows}
+use Rattle.snap_format.proofs.RecordFacts.{rows_spell}
 use Rattle.snap_csv.specs.Answers.{AnswersRecords, AnswersText, Counts, Leaves, RefusalCounts, RefusalLeaves, RefusesText}
 use Rattle.snap_csv.specs.inside.Rows.{AnswersListed}
 
@@ -58,6 +59,11 @@ limit_kept limit rows (Err e) says = tt
 pub lists_limit : (limit : ℕ) (rows : List Fields) (result : Result (LimitedEvents × Vec ℕ) ReadRefusal) → AnswersListed limit rows result → IfOk result (λ x. x.0.limit ≡ limit)
 lists_limit limit rows (Ok x) says = says.0.1
 lists_limit limit rows (Err e) says = tt
+
+-- there is a number for each event
+pub lists_each : (limit : ℕ) (rows : List Fields) (result : Result (LimitedEvents × Vec ℕ) ReadRefusal) → AnswersListed limit rows result → IfOk result (λ x. length x.1.items ≡ length x.0.events)
+lists_each limit rows (Ok x) says = (rows_spell limit rows x.0.events x.1.items says.0.0 says.1).count
+lists_each limit rows (Err e) says = tt
 
 -- no device fails after the text that was taken
 stays : (limit : ℕ) (rows : List Fields) (old new : ℕ) (e : ReadRefusal) → new ≡ old → RefusesRows limit rows e → RefusalCounts old new e

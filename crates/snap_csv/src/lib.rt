@@ -14,7 +14,7 @@ mod writing;
 
 pub use line::{is_header_line, read_line};
 pub use read::{read_history, read_history_with, read_text};
-pub use records::{read_records, record_of};
+pub use records::{read_records, read_records_with, record_of};
 pub use refusal::WriteRefusal;
 pub use snap_format::{ReadRefusal, bytes_within, fault_for};
 pub use snap_text::{TextFault, fields_of};

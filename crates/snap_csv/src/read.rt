@@ -63,8 +63,8 @@ pub(crate) fn numbered_history(
     }
 }
 
-// The answer of `numbered_history`. The workers of a cutting share the reading of a plain text.
-fn numbered_shared<Rt: Threads + Sync>(
+/// The answer of `numbered_history`. The workers of a cutting share the reading of a plain text.
+pub(crate) fn numbered_shared<Rt: Threads + Sync>(
     rt: &Rt,
     alloc: Global,
     text: &[u8],

@@ -1,5 +1,5 @@
 //! Histories with the numbers of their records, and records by number.
-ghost use Rattle.std.specs.Prelude.{◌≡◌, ◌≤◌, ◌+◌, All, IfOk, IfSome, IsTrue, List, length, map, option_map};
+ghost use Rattle.std.specs.Prelude.{◌≡◌, ◌≤◌, ◌+◌, ℕ, IfOk, IfSome, List, length, map, option_map};
 ghost use Rattle.std.specs.List.{range_with_len};
 ghost use Rattle.csv.specs.Records.{fields_of};
 ghost use Rattle.snap_core.specs.Counting.{inner_of, failures_in};
@@ -8,18 +8,19 @@ ghost use Rattle.snap_csv.specs.Answers.{AnswersRecords, Counts, Leaves};
 ghost use Rattle.snap_csv.specs.inside.Rows.{AnswersListed, Stands};
 ghost use Rattle.snap_format.specs.Records.{record_at};
 ghost use Rattle.snap_format.specs.Rows.{rows_of};
-ghost use Rattle.snap_plain.specs.Lines.{IsPlain};
-ghost use Rattle.snap_format.specs.Taking.{numbers_kept};
+ghost use Rattle.snap_format.specs.Taking.{AnswersNumbered, numbers_kept};
 ghost use Rattle.snap_text.specs.Fields.{Fields};
 
 use crate::intake::take_in;
-use crate::read::numbered_history;
+use crate::read::{numbered_history, numbered_shared};
 use crate::rows::{next_row, reader_of};
 use csv::{ByteRecord, Reader};
 use snap_core::{Counted, History, Limit};
 use snap_format::ReadRefusal;
+use snap_threads::Cutting;
 use std::alloc::{AllocError, Global};
 use std::io::Read;
+use std::thread::Threads;
 
 // The numbers of `count` records, one after the other under the header.
 fn in_turn(alloc: Global, count: usize) -> Result<Vec<u32>, AllocError>
@@ -40,18 +41,14 @@ fn numbers_in(alloc: Global, count: usize, kept: Option<Vec<u32>>) -> Result<Vec
     }
 }
 
-// The history of a text and the number of each event's record, or the first fault.
-fn listed_history(
+// The history of a text, and the number of each event's record in place of those that were kept; or the first fault.
+fn listed(
     alloc: Global,
-    text: &[u8],
-    plain: bool,
-    limit: Limit,
+    numbered: Result<(History, Option<Vec<u32>>), ReadRefusal>,
 ) -> Result<(History, Vec<u32>), ReadRefusal>
-    requires { IsTrue plain → All IsPlain text.now }
-    ensures rows { AnswersListed limit.events (rows_of text.now) result }
-    ensures each { IfOk result (λ x. length x.1.items ≡ length x.0.events) }
+    ensures { (limit : ℕ) (rows : List Fields) → AnswersNumbered limit rows numbered → AnswersListed limit rows result }
 {
-    let (history, kept) = numbered_history(alloc, text, plain, limit)?;
+    let (history, kept) = numbered?;
     let records = numbers_in(alloc, history.len(), kept)?;
     Ok((history, records))
 }
@@ -72,7 +69,26 @@ pub fn read_records<R: Read>(
     ensures room { IfSome (R.remaining (inner_of reader.old)) (λ text. Leaves text room.new.items result) }
 {
     let plain = take_in(alloc, reader, room, limit)?;
-    listed_history(alloc, room, plain, limit)
+    listed(alloc, numbered_history(alloc, room, plain, limit))
+}
+
+/// Reads as `read_records`. Workers of a cutting read pieces of a long text side by side, as by `read_history_with`.
+pub fn read_records_with<Rt: Threads + Sync, R: Read>(
+    rt: &Rt,
+    alloc: Global,
+    reader: &mut Counted<R>,
+    room: &mut Vec<u8>,
+    limit: Limit,
+    cutting: Cutting,
+) -> Result<(History, Vec<u32>), ReadRefusal>
+    ensures text { IfSome (R.remaining (inner_of reader.old)) (λ text. AnswersRecords limit.events text result) }
+    ensures each { IfOk result (λ x. length x.1.items ≡ length x.0.events) }
+    ensures limit { IfOk result (λ x. x.0.limit ≡ limit.events) }
+    ensures counts { Counts (failures_in reader.old) (failures_in reader.new) result }
+    ensures room { IfSome (R.remaining (inner_of reader.old)) (λ text. Leaves text room.new.items result) }
+{
+    let plain = take_in(alloc, reader, room, limit)?;
+    listed(alloc, numbered_shared(rt, alloc, room, plain, limit, cutting))
 }
 
 // A copy of the fields of a record.

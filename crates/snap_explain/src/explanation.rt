@@ -18,6 +18,15 @@ use snap_conditions::{Tally, is_regular};
 use snap_index::Index;
 use std::alloc::{AllocError, Global};
 
+/// How much an explanation has.
+#[derive(Clone, Copy)]
+pub struct Detail {
+    /// Which entries of the views of a fault are listed.
+    pub listed: Entries,
+    /// Of each kind of fault, how many views are explained that have one, each by its first fault of the kind.
+    pub faults: u32,
+}
+
 // Adds the verdict on a history that is not atomic.
 fn put_verdict(out: &mut Vec<u8>, tally: &Tally) -> Result<(), AllocError>
     ensures { OnOk result (out.new.items ≡ out.old.items ++ verdict_text (has_no_local_fault tally.now)) }
@@ -105,26 +114,25 @@ fn explain_first_faults(
     Ok(out)
 }
 
-/// The explanation of a history by more than one fault of a kind. Of an atomic history, and with `most` 1, it is that of `explain`.
-/// Otherwise it has a sentence for the first fault of a kind of each of the first `most` completed views that have one, and the calls
-/// concerned. The kinds come one after the other.
+/// The explanation of a history by more than one fault of a kind. Of an atomic history, and by one fault, it is that of `explain`.
+/// Otherwise it has a sentence for the first fault of a kind of each of the first completed views that have one, and the calls concerned.
+/// The kinds come one after the other.
 pub fn explain_faults(
     alloc: Global,
     index: &Index<'_>,
     tally: &Tally,
     records: &[u32],
     order: Option<&[u32]>,
-    listed: Entries,
-    most: u32,
+    detail: Detail,
 ) -> Result<Vec<u8>, AllocError>
     requires tally { tally.now ≡ tally_of (calls_of index.now) (views_of (calls_of index.now)) }
     requires each { length records.now ≡ length index.now }
     requires given { is_some order ≡ has_no_fault tally.now }
     requires order { ForSome order (λ numbers. numbers.now ≡ map (λ c. c.number) (printed_order (calls_of index.now))) }
-    ensures { IfOk result (λ text. IsLongExplanation most listed records.now (calls_of index.now) text.items) }
+    ensures { IfOk result (λ text. IsLongExplanation detail.faults detail.listed records.now (calls_of index.now) text.items) }
 {
     match order {
-        Some(_) => explain(alloc, index, tally, records, order, listed),
-        None => explain_first_faults(alloc, index, tally, records, listed, most),
+        Some(_) => explain(alloc, index, tally, records, order, detail.listed),
+        None => explain_first_faults(alloc, index, tally, records, detail.listed, detail.faults),
     }
 }

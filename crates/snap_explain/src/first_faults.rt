@@ -45,24 +45,24 @@ fn put_at<F: Explained>(
     }
 }
 
-// Adds what is said of the first fault of each completed view from `from` to `to - 1` that has one of the kind, but of the first `left`
-// such views alone. It gives how many may follow.
+// Adds what is said of the first fault of each completed view between two places, without the second, that has one of the kind. That is
+// so of the first `left` such views alone. It gives how many may follow.
 fn put_between<F: Explained>(
     out: &mut Vec<u8>,
     index: &Index<'_>,
     records: &[u32],
     listed: Entries,
-    from: u32,
-    to: u32,
+    between: (u32, u32),
     left: u32,
 ) -> Result<u32, AllocError>
     requires each { length records.now ≡ length index.now }
-    requires order { from ≤ to }
-    requires views { to ≤ length (views_of (calls_of index.now)) }
+    requires order { between.0 ≤ between.1 }
+    requires views { between.1 ≤ length (views_of (calls_of index.now)) }
     ensures text { OnOk result (out.new.items ≡ out.old.items
-        ++ flat_map (F.text listed records.now (calls_of index.now)) (take left (firsts_among F.first (calls_of index.now) (views_between (calls_of index.now) from to)))) }
-    ensures more { IfOk result (λ more. more + length (take left (firsts_among F.first (calls_of index.now) (views_between (calls_of index.now) from to))) ≡ left) }
+        ++ flat_map (F.text listed records.now (calls_of index.now)) (take left (firsts_among F.first (calls_of index.now) (views_between (calls_of index.now) between.0 between.1)))) }
+    ensures more { IfOk result (λ more. more + length (take left (firsts_among F.first (calls_of index.now) (views_between (calls_of index.now) between.0 between.1))) ≡ left) }
 {
+    let (from, to) = between;
     let mut more = left;
     for place in from..to {
         more = put_at::<F>(out, index, records, listed, place, more)?;
@@ -82,7 +82,8 @@ fn put_kind<F: Explained>(
     ensures { OnOk result (out.new.items ≡ out.old.items
         ++ flat_map (F.text listed records.now (calls_of index.now)) (first_faults F.first most (calls_of index.now))) }
 {
-    put_between::<F>(out, index, records, listed, 0, index.view_count(), most)?;
+    let all = (0, index.view_count());
+    put_between::<F>(out, index, records, listed, all, most)?;
     Ok(())
 }
 
@@ -92,25 +93,24 @@ fn put_block(
     grid: &ViewGrid<'_, '_>,
     records: &[u32],
     listed: Entries,
-    from: u32,
-    to: u32,
+    between: (u32, u32),
     left: u32,
 ) -> Result<u32, AllocError>
     requires each { length records.now ≡ length grid.now }
-    requires order { from ≤ to }
-    requires views { to ≤ length (views_of (calls_of grid.now)) }
+    requires order { between.0 ≤ between.1 }
+    requires views { between.1 ≤ length (views_of (calls_of grid.now)) }
     ensures text { OnOk result (out.new.items ≡ out.old.items
-        ++ flat_map (read_text listed records.now (calls_of grid.now)) (take left (firsts_among read_first (calls_of grid.now) (views_between (calls_of grid.now) from to)))) }
-    ensures more { IfOk result (λ more. more + length (take left (firsts_among read_first (calls_of grid.now) (views_between (calls_of grid.now) from to))) ≡ left) }
+        ++ flat_map (read_text listed records.now (calls_of grid.now)) (take left (firsts_among read_first (calls_of grid.now) (views_between (calls_of grid.now) between.0 between.1)))) }
+    ensures more { IfOk result (λ more. more + length (take left (firsts_among read_first (calls_of grid.now) (views_between (calls_of grid.now) between.0 between.1))) ≡ left) }
 {
     if left == 0 {
         return Ok(0);
     }
-    let (faults, _stale) = read_faults_by_grid(*out.allocator(), grid, from, to)?;
+    let (faults, _stale) = read_faults_by_grid(*out.allocator(), grid, between.0, between.1)?;
     if faults.first().is_none() {
         return Ok(left);
     }
-    put_between::<ReadFault>(out, grid.index(), records, listed, from, to, left)
+    put_between::<ReadFault>(out, grid.index(), records, listed, between, left)
 }
 
 // Adds what is said of the first read fault of each of the first `most` completed views that have one, block by block.
@@ -130,7 +130,7 @@ fn put_blocks(
     let mut from = 0;
     while from < count {
         let to = from + BLOCK.min(count - from);
-        left = put_block(out, grid, records, listed, from, to, left)?;
+        left = put_block(out, grid, records, listed, (from, to), left)?;
         from = to;
     }
     Ok(())

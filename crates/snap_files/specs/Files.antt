@@ -1,7 +1,6 @@
 -- What a check of several named texts answers, writes and says.
 use Rattle.std.specs.Prelude.{◌≡◌, ◌≤◌, ◌<◌, ◌-◌, ◌^◌, ◌++◌, ◌⊎◌, ℕ, max, List, [], ◌∷◌, length, take, Option, Some, None, Result, Ok, Err, IfSome, codes, decimal, flat_map}
 use Rattle.std.specs.Global.{Vec}
-use Rattle.std.specs.Str.Lossy.{utf8_lossy}
 use Rattle.std.specs.List.{AllZip}
 use Rattle.std.specs.Io.KnownBytes.{Appends}
 use Rattle.snap_core.specs.Sending.{SendsFront}
@@ -13,14 +12,15 @@ use Rattle.snap_explain.specs.TestCases.{ended_case}
 use Rattle.snap_explain.specs.declared.test_case.Ending.TheVariants.{Error}
 use Rattle.snap_json.specs.Objects.{trouble_json}
 use Rattle.snap_json.specs.Values.{IsLineOf}
-use Rattle.snap_runs.specs.Stats.{IsCounted}
-use Rattle.snap_runs.specs.Telling.{IsTold}
-use Rattle.snap_runs.specs.TestCases.{IsTestCase}
+use Rattle.snap_runs.specs.Answers.{IsAnswerTo, IsCountsObject, IsObject, IsTestCase}
+use Rattle.snap_runs.specs.Telling.{object_name}
+use Rattle.snap_runs.specs.declared.question.Question.TheVariants.{Counts}
 use Rattle.snap_names.specs.Said.{named_lines, trouble_line_text, trouble_text}
 use Rattle.snap_names.specs.Shown.{shown}
 use Rattle.snap_files.specs.declared.format.FileOptions.{FileOptions}
 use Rattle.snap_files.specs.declared.format.Format.{Format}
-use Rattle.snap_files.specs.declared.format.Format.TheVariants.{Plain, Json, Counts, CountsObject, Junit}
+use Rattle.snap_files.specs.declared.format.Format.TheVariants.{Plain, Json, CountsObject, Junit}
+use Rattle.snap_files.specs.declared.format.Format.TheVariants as formats
 use Rattle.snap_names.specs.declared.opener.Trouble.{Trouble}
 use Rattle.snap_names.specs.declared.opener.Trouble.TheVariants.{Memory}
 
@@ -45,31 +45,17 @@ Opens = List ℕ → Result (Option (List ℕ)) Trouble → Type 0
 abbrev pub IsTroubled : Opens → List ℕ → Trouble → Type 0
 IsTroubled opens name trouble = opens name (Err trouble) ⊎ ((known : Option (List ℕ)) × opens name (Ok known) × (trouble ≡ Memory))
 
--- the object of a text has a status in each case
-abbrev pub IsObject : CheckOptions → List ℕ → List ℕ → Option Status → List ℕ → Type 0
-IsObject options name text (Some status) out = IsTold options.limit.events name options.views text status out
-IsObject options name text None out = ⊥
-
--- A name in an object, which is Unicode. U+FFFD replaces each sequence of bytes that is not UTF-8.
-abbrev pub object_name : List ℕ → List ℕ
-object_name name = utf8_lossy name
-
--- what a text has shown: an object with a name or lines, and a status in each case
-abbrev pub IsCounts : Option (List ℕ) → ℕ → List ℕ → Option Status → List ℕ → Type 0
-IsCounts name limit text (Some status) out = IsCounted name limit text status out
-IsCounts name limit text None out = ⊥
-
 -- what a text has shown, each line with the name before it
 abbrev pub IsNamedCounts : ℕ → List ℕ → List ℕ → Option Status → List ℕ → Type 0
-IsNamedCounts limit name text status out = IsNamed (IsCounts None limit text status) name out
+IsNamedCounts limit name text status out = IsNamed (IsAnswerTo (Counts None) limit text status) name out
 
 -- what is answered and written for an opened text: its report or its counts, as named lines or as an object alone, or its test case
 abbrev pub IsTextPage : Format → CheckOptions → List ℕ → List ℕ → Option Status → List ℕ → Type 0
 IsTextPage Plain options name text status out = IsNamedReport options name text status out
-IsTextPage Json options name text status out = IsObject options (object_name name) text status out
-IsTextPage Counts options name text status out = IsNamedCounts options.limit.events name text status out
-IsTextPage CountsObject options name text status out = IsCounts (Some (object_name name)) options.limit.events text status out
-IsTextPage Junit options name text status out = IsTestCase options.limit.events name options.views text status out
+IsTextPage Json options name text status out = IsObject name options.views options.limit.events text status out
+IsTextPage formats.Counts options name text status out = IsNamedCounts options.limit.events name text status out
+IsTextPage CountsObject options name text status out = IsCountsObject name options.limit.events text status out
+IsTextPage Junit options name text status out = IsTestCase name options.views options.limit.events text status out
 
 -- the exit status of a name
 abbrev pub answer_code : Answer → ℕ
@@ -98,7 +84,7 @@ IsTroubleCase name met trouble out = ((trouble ≡ met) × (out ≡ trouble_case
 abbrev pub IsTroublePage : Format → List ℕ → Trouble → Trouble → List ℕ → Type 0
 IsTroublePage Plain name met trouble out = IsNoPage met trouble out
 IsTroublePage Json name met trouble out = IsTroubleObject name met trouble out
-IsTroublePage Counts name met trouble out = IsNoPage met trouble out
+IsTroublePage formats.Counts name met trouble out = IsNoPage met trouble out
 IsTroublePage CountsObject name met trouble out = IsTroubleObject name met trouble out
 IsTroublePage Junit name met trouble out = IsTroubleCase name met trouble out
 

@@ -6,13 +6,13 @@ ghost use Rattle.snap_files.specs.Files.{ChecksAll, ChecksSome, written};
 ghost use Rattle.snap_files.specs.inside.Files.{WritesAll, paged};
 ghost use Rattle.snap_check.specs.Runs.{RunCounts};
 
+use crate::crew::{Crew, Files};
 use crate::format::FileOptions;
 use crate::page::{Answer, code_of, told_of};
 use crate::round::{pages_of, round_at};
 use snap_check::RunFault;
-use snap_core::{Counted, Gate};
+use snap_core::Counted;
 use snap_names::Opener;
-use snap_threads::Cutting;
 use std::alloc::Global;
 use std::io::Write;
 use std::thread::Threads;
@@ -53,33 +53,31 @@ pub(crate) fn write_round<W: Write, E: Write>(
 /// A name has the exit status 4 if its text can't be opened or read, or memory did not suffice for it. The reason goes to the error
 /// output, and the other names are still checked. A failure of the error output is counted, and does not end the check.
 ///
-/// If objects are asked for, each name has one in place of its report, as `tell_run` writes it, also without a status. If memory
+/// If objects are asked for, each name has one in place of its report, as `Question::Object` has it, also without a status. If memory
 /// does not suffice for the object of a name without a status, lack of memory is its reason. Then nothing is written for it.
 ///
-/// If it is asked what the texts have shown, each name has that in place of its report, as `stats_run` writes it.
+/// If it is asked what the texts have shown, each name has that in place of its report, as `Question::Counts` has it.
 ///
 /// A report that can't be written ends the check with `Write`. A reason for which memory does not suffice ends it with `Memory`.
-pub fn check_all<Rt: Threads + Sync, O: Opener, W: Write, E: Write, G: Gate>(
-    rt: &Rt,
+pub fn check_all<Rt: Threads + Sync, O: Opener, W: Write, E: Write>(
+    crew: &Crew<'_, Rt>,
     alloc: Global,
-    opener: &O,
-    names: &[Vec<u8>],
+    files: &Files<'_, O>,
     writer: &mut Counted<W>,
     errors: &mut Counted<E>,
-    cutting: Cutting,
-    gate: &G,
     options: FileOptions,
 ) -> Result<u8, RunFault>
-    ensures all { IfOk result (ChecksAll (O.opens opener.now) options names.now (W.contents (inner_of writer.old)) (W.contents (inner_of writer.new))
+    ensures all { IfOk result (ChecksAll (O.opens files.now.opener.now) options files.now.names.now (W.contents (inner_of writer.old)) (W.contents (inner_of writer.new))
         (E.contents (inner_of errors.old)) (E.contents (inner_of errors.new)) (failures_in errors.old) (failures_in errors.new)) }
-    ensures some { IfErr result (λ _. ChecksSome (O.opens opener.now) options names.now (W.contents (inner_of writer.old)) (W.contents (inner_of writer.new))) }
+    ensures some { IfErr result (λ _. ChecksSome (O.opens files.now.opener.now) options files.now.names.now (W.contents (inner_of writer.old)) (W.contents (inner_of writer.new))) }
     ensures counts { RunCounts 0 0 (failures_in writer.old) (failures_in writer.new) result }
 {
+    let Files { opener, names } = *files;
     let mut greatest = 0;
     let mut from = 0;
     while from < names.len() {
-        let round = round_at(names, from, cutting);
-        let pages = pages_of(rt, alloc, opener, round, cutting, gate, options)?;
+        let round = round_at(names, from, crew.cutting);
+        let pages = pages_of(crew, alloc, opener, round, options)?;
         let code = write_round(alloc, round, &pages, writer, errors, options)?;
         greatest = code.max(greatest);
         from += round.len();

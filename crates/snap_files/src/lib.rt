@@ -1,7 +1,7 @@
 //! The answers for several named texts: each line of a report has the name before it, or a JSON object or a test case names its text.
 #![tactic(auto)]
 
-mod counts;
+mod crew;
 mod files;
 mod format;
 mod page;
@@ -9,8 +9,8 @@ mod round;
 mod suite;
 mod sum;
 mod sums;
-mod test_case;
 
+pub use crew::{Crew, Files};
 pub use files::check_all;
 pub use format::{FileOptions, Format};
 pub use suite::suite_all;

@@ -1,22 +1,23 @@
 //! What is answered, written and said for one name.
-ghost use Rattle.std.specs.Prelude.{◌≡◌, ◌<◌, ◌++◌, IfOk, IfSome, MatchResult, Ok, Err, string_bytes};
+ghost use Rattle.std.specs.Prelude.{◌≡◌, ◌<◌, ◌++◌, IfOk, IfSome, MatchResult, Ok, Err};
 ghost use Rattle.snap_core.specs.Counting.{failures_in, inner_of};
 ghost use Rattle.snap_check.specs.declared.fault.RunFault.TheVariants as faults;
 ghost use Rattle.snap_json.specs.Objects.{trouble_json};
 ghost use Rattle.snap_json.specs.Values.{IsLineOf};
-ghost use Rattle.snap_files.specs.Files.{IsNamedReport, IsObject, IsPage, IsTextPage, IsTroublePage, answer_code, object_name, refusal_line_text, told_text};
+ghost use Rattle.snap_files.specs.Files.{IsNamedCounts, IsNamedReport, IsPage, IsTextPage, IsTroublePage, answer_code, refusal_line_text, told_text, trouble_case};
+ghost use Rattle.snap_runs.specs.Answers.{IsAnswerTo};
+ghost use Rattle.snap_runs.specs.Telling.{object_name};
 ghost use Rattle.snap_files.specs.inside.Files.{BlamesReader, IsTroubleBy};
 ghost use Rattle.snap_names.specs.Said.{trouble_text};
 
-use crate::counts::{counts_object, named_counts};
+use crate::crew::Crew;
 use crate::format::{FileOptions, Format};
-use crate::test_case::{test_case, trouble_case};
-use snap_check::{CheckOptions, RunFault, Status, check_run_with};
-use snap_core::{Counted, Gate};
+use snap_check::{CheckOptions, Checking, RunFault, Status, Workers, check_run_with};
+use snap_core::{Counted, OpenGate};
+use snap_explain::{Ending, ended_case};
 use snap_names::{Opener, Trouble, name_lines, put_shown, trouble_line, trouble_words};
 use snap_report::put_number;
-use snap_runs::tell_run;
-use snap_threads::Cutting;
+use snap_runs::{Named, Question, answer_to, object_name};
 use std::alloc::{AllocError, Global};
 use std::io::Read;
 use std::thread::Threads;
@@ -53,84 +54,92 @@ fn trouble_of<O: Opener>(
 }
 
 // The status and the report of a reader's text, each line with the name before it.
-fn named_report<Rt: Threads + Sync, R: Read, G: Gate>(
-    rt: &Rt,
+fn named_report<Rt: Threads + Sync, R: Read>(
+    crew: &Crew<'_, Rt>,
     alloc: Global,
     name: &[u8],
     reader: &mut Counted<R>,
-    cutting: Cutting,
-    gate: &G,
     options: CheckOptions,
 ) -> Result<(Option<Status>, Vec<u8>), RunFault>
     ensures page { IfOk result (λ page. IfSome (R.remaining (inner_of reader.old)) (λ bytes. IsNamedReport options name.now bytes page.0 page.1.items)) }
     ensures blame { BlamesReader (failures_in reader.old) (failures_in reader.new) result }
 {
     let mut writer = Counted::new(Vec::new(alloc));
-    let status = check_run_with(rt, alloc, reader, &mut writer, cutting, gate, options)?;
+    let checking = Checking {
+        cutting: crew.cutting,
+        gate: &OpenGate,
+        options,
+    };
+    let status = check_run_with(crew.rt, alloc, reader, &mut writer, &checking)?;
     let report = writer.into_inner();
     let lines = name_lines(alloc, name, &report)?;
     Ok((status, lines))
 }
 
-// The status and the object of a reader's text, with a name.
-fn object<Rt: Threads + Sync, R: Read>(
-    rt: &Rt,
+// The answer to a question about a reader's text.
+fn answer<Rt: Threads + Sync, R: Read>(
+    crew: &Crew<'_, Rt>,
     alloc: Global,
-    name: &str,
+    question: Question<'_>,
     reader: &mut Counted<R>,
-    cutting: Cutting,
     options: CheckOptions,
 ) -> Result<(Option<Status>, Vec<u8>), RunFault>
-    ensures page { IfOk result (λ page. IfSome (R.remaining (inner_of reader.old)) (λ bytes. IsObject options name.now bytes page.0 page.1.items)) }
+    ensures page { IfOk result (λ page. IfSome (R.remaining (inner_of reader.old)) (λ bytes. IsAnswerTo question.entry options.limit.events bytes page.0 page.1.items)) }
     ensures blame { BlamesReader (failures_in reader.old) (failures_in reader.new) result }
 {
-    let mut writer = Counted::new(Vec::new(alloc));
-    let status = tell_run(rt, alloc, name, reader, &mut writer, cutting, options)?;
-    Ok((Some(status), writer.into_inner()))
+    let workers = Workers {
+        rt: crew.rt,
+        cutting: crew.cutting,
+        alone_below: options.alone_below,
+        finer: options.finer,
+    };
+    let (status, out) = answer_to(&workers, alloc, question, reader, options.limit)?;
+    Ok((status, out))
 }
 
-/// A name as an object has it, in Unicode.
-pub(crate) fn object_name(alloc: Global, name: &[u8]) -> Result<String, AllocError>
-    ensures { IfOk result (λ text. string_bytes text ≡ object_name name.now) }
-{
-    String::from_utf8_lossy(alloc, name)
-}
-
-// The status and the object of a reader's text, with a name that need not be Unicode.
-fn shown_object<Rt: Threads + Sync, R: Read>(
-    rt: &Rt,
+// The status of a reader's text and what it has shown, each line with the name before it.
+fn named_counts<Rt: Threads + Sync, R: Read>(
+    crew: &Crew<'_, Rt>,
     alloc: Global,
     name: &[u8],
     reader: &mut Counted<R>,
-    cutting: Cutting,
     options: CheckOptions,
 ) -> Result<(Option<Status>, Vec<u8>), RunFault>
-    ensures page { IfOk result (λ page. IfSome (R.remaining (inner_of reader.old)) (λ bytes. IsObject options (object_name name.now) bytes page.0 page.1.items)) }
+    ensures page { IfOk result (λ page. IfSome (R.remaining (inner_of reader.old)) (λ bytes. IsNamedCounts options.limit.events name.now bytes page.0 page.1.items)) }
     ensures blame { BlamesReader (failures_in reader.old) (failures_in reader.new) result }
 {
-    let shown = object_name(alloc, name)?;
-    object(rt, alloc, &shown, reader, cutting, options)
+    let (status, counts) = answer(crew, alloc, Question::Counts(None), reader, options)?;
+    let lines = name_lines(alloc, name, &counts)?;
+    Ok((status, lines))
 }
 
 // The status of a reader's text and what is written for it, in the format that is asked for.
-fn text_page<Rt: Threads + Sync, R: Read, G: Gate>(
-    rt: &Rt,
+fn text_page<Rt: Threads + Sync, R: Read>(
+    crew: &Crew<'_, Rt>,
     alloc: Global,
     name: &[u8],
     reader: &mut Counted<R>,
-    cutting: Cutting,
-    gate: &G,
     options: FileOptions,
 ) -> Result<(Option<Status>, Vec<u8>), RunFault>
     ensures page { IfOk result (λ page. IfSome (R.remaining (inner_of reader.old)) (λ bytes. IsTextPage options.format options.check name.now bytes page.0 page.1.items)) }
     ensures blame { BlamesReader (failures_in reader.old) (failures_in reader.new) result }
 {
+    let views = options.check.views;
     match options.format {
-        Format::Plain => named_report(rt, alloc, name, reader, cutting, gate, options.check),
-        Format::Json => shown_object(rt, alloc, name, reader, cutting, options.check),
-        Format::Counts => named_counts(rt, alloc, name, reader, cutting, options.check),
-        Format::CountsObject => counts_object(rt, alloc, name, reader, cutting, options.check),
-        Format::Junit => test_case(rt, alloc, name, reader, cutting, options.check),
+        Format::Plain => named_report(crew, alloc, name, reader, options.check),
+        Format::Json => {
+            let question = Question::Object(Named { name, views });
+            answer(crew, alloc, question, reader, options.check)
+        }
+        Format::Counts => named_counts(crew, alloc, name, reader, options.check),
+        Format::CountsObject => {
+            let question = Question::Counts(Some(name));
+            answer(crew, alloc, question, reader, options.check)
+        }
+        Format::Junit => {
+            let question = Question::TestCase(Named { name, views });
+            answer(crew, alloc, question, reader, options.check)
+        }
     }
 }
 
@@ -140,6 +149,13 @@ fn trouble_object(alloc: Global, name: &[u8], met: Trouble) -> Result<Vec<u8>, A
 {
     let shown = object_name(alloc, name)?;
     snap_json::trouble_line(alloc, &shown, code_of(&Err(met)), trouble_words(met))
+}
+
+// The test case of a name that met a trouble.
+fn trouble_case(alloc: Global, name: &[u8], met: Trouble) -> Result<Vec<u8>, AllocError>
+    ensures { IfOk result (λ text. text.items ≡ trouble_case name.now met) }
+{
+    ended_case(alloc, Ending::Error, name, trouble_words(met).as_bytes())
 }
 
 // The trouble of a name that met one, and what is written for it.
@@ -164,13 +180,11 @@ fn trouble_page(alloc: Global, name: &[u8], met: Trouble, format: Format) -> (Tr
 }
 
 /// What is answered for a name, and what is written for it.
-pub(crate) fn check_name<Rt: Threads + Sync, O: Opener, G: Gate>(
-    rt: &Rt,
+pub(crate) fn check_name<Rt: Threads + Sync, O: Opener>(
+    crew: &Crew<'_, Rt>,
     alloc: Global,
     opener: &O,
     name: &[u8],
-    cutting: Cutting,
-    gate: &G,
     options: FileOptions,
 ) -> (Answer, Vec<u8>)
     ensures { IsPage (O.opens opener.now) options name.now result.0 result.1.items }
@@ -178,7 +192,7 @@ pub(crate) fn check_name<Rt: Threads + Sync, O: Opener, G: Gate>(
     let met = match opener.open(name) {
         Ok(text) => {
             let mut reader = Counted::new(text);
-            match text_page(rt, alloc, name, &mut reader, cutting, gate, options) {
+            match text_page(crew, alloc, name, &mut reader, options) {
                 Ok((status, out)) => return (Ok(status), out),
                 Err(fault) => trouble_of(opener, name, &reader, fault),
             }

@@ -2,9 +2,9 @@
 ghost use Rattle.std.specs.Prelude.{◌≡◌, ◌≤◌, ◌<◌, ◌+◌, ◌-◌, ◌*◌, IfOk, length, min, take, drop};
 ghost use Rattle.snap_files.specs.inside.Files.{AreAnswered};
 
+use crate::crew::Crew;
 use crate::format::FileOptions;
 use crate::page::{Answer, check_name};
-use snap_core::Gate;
 use snap_names::Opener;
 use snap_threads::Cutting;
 use std::alloc::{AllocError, Global};
@@ -35,37 +35,34 @@ fn cutting_in(names: &[Vec<u8>], cutting: Cutting) -> Cutting {
 }
 
 // What is answered and written for each of some names, one after another.
-fn pages_in_turn<Rt: Threads + Sync, O: Opener, G: Gate>(
-    rt: &Rt,
+fn pages_in_turn<Rt: Threads + Sync, O: Opener>(
+    crew: &Crew<'_, Rt>,
     alloc: Global,
     opener: &O,
     names: &[Vec<u8>],
-    cutting: Cutting,
-    gate: &G,
     options: FileOptions,
 ) -> Result<Vec<(Answer, Vec<u8>)>, AllocError>
     ensures { IfOk result (λ pages. AreAnswered (O.opens opener.now) options names.now pages.items) }
 {
     let mut pages = Vec::new(alloc);
     for name in names {
-        let page = check_name(rt, alloc, opener, name, cutting, gate, options);
+        let page = check_name(crew, alloc, opener, name, options);
         pages.push(page)?;
     }
     Ok(pages)
 }
 
 /// What is answered and written for each name of a round. Each share of the names has a thread of its own, if one can be started.
-pub(crate) fn pages_of<Rt: Threads + Sync, O: Opener, G: Gate>(
-    rt: &Rt,
+pub(crate) fn pages_of<Rt: Threads + Sync, O: Opener>(
+    crew: &Crew<'_, Rt>,
     alloc: Global,
     opener: &O,
     names: &[Vec<u8>],
-    cutting: Cutting,
-    gate: &G,
     options: FileOptions,
 ) -> Result<Vec<(Answer, Vec<u8>)>, AllocError>
     ensures { IfOk result (λ pages. AreAnswered (O.opens opener.now) options names.now pages.items) }
 {
+    let Crew { rt, cutting } = *crew;
     let own = cutting_in(names, cutting);
     let size = names.len().div_ceil(cutting.workers() as usize).max(1);
     let mut shares = map_chunks(
@@ -75,7 +72,7 @@ pub(crate) fn pages_of<Rt: Threads + Sync, O: Opener, G: Gate>(
         size,
         &|_, share: &[Vec<u8>]| -> Result<Vec<(Answer, Vec<u8>)>, AllocError>
             ensures { IfOk result (λ pages. AreAnswered (O.opens opener.entry.now) options share.now pages.items) }
-        { pages_in_turn(rt, alloc, opener, share, own, gate, options) },
+        { pages_in_turn(&Crew { rt, cutting: own }, alloc, opener, share, options) },
     )?;
     let mut behind = Vec::new(alloc);
     while let Some(share) = shares.pop() {

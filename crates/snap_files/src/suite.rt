@@ -7,15 +7,15 @@ ghost use Rattle.snap_files.specs.inside.Files.{AreAnswered, paged};
 ghost use Rattle.snap_files.specs.inside.Suites.{SendsAround, around};
 ghost use Rattle.snap_files.specs.Suites.{WritesSuite, SomeOfSuite, is_error, is_failure, suite_front, with_cases};
 
+use crate::crew::{Crew, Files};
 use crate::files::write_round;
 use crate::format::{FileOptions, Format};
 use crate::page::Answer;
 use crate::round::{pages_of, round_at};
 use snap_check::{CheckOptions, RunFault, Status};
-use snap_core::{Counted, Gate};
+use snap_core::Counted;
 use snap_names::Opener;
 use snap_report::put_number;
-use snap_threads::Cutting;
 use std::alloc::{AllocError, Global};
 use std::io::Write;
 use std::thread::Threads;
@@ -92,27 +92,33 @@ fn front_of(alloc: Global, pages: &[(Answer, Vec<u8>)]) -> Result<Vec<u8>, Alloc
     Ok(front)
 }
 
+// The begin of a document, and what stands in it for some names.
+#[derive(Drop)]
+struct Cases<'c> {
+    front: &'c [u8],
+    names: &'c [Vec<u8>],
+    pages: &'c [(Answer, Vec<u8>)],
+}
+
 // Writes a begin, the cases of some names and the end of the document, and says why some names have no status. Answers their greatest
 // exit status.
 fn send_around<W: Write, E: Write>(
     alloc: Global,
-    front: &[u8],
-    names: &[Vec<u8>],
-    pages: &[(Answer, Vec<u8>)],
+    cases: Cases<'_>,
     writer: &mut Counted<W>,
     errors: &mut Counted<E>,
     options: FileOptions,
 ) -> Result<u8, RunFault>
-    requires { length pages.now ≡ length names.now }
-    ensures all { IfOk result (SendsAround options front.now (paged names.now pages.now) (W.contents (inner_of writer.old)) (W.contents (inner_of writer.new))
+    requires { length cases.pages.now ≡ length cases.names.now }
+    ensures all { IfOk result (SendsAround options cases.entry.front.now (paged cases.entry.names.now cases.entry.pages.now) (W.contents (inner_of writer.old)) (W.contents (inner_of writer.new))
         (E.contents (inner_of errors.old)) (E.contents (inner_of errors.new)) (failures_in errors.old) (failures_in errors.new)) }
-    ensures some { IfErr result (λ _. SendsFront (W.contents (inner_of writer.old)) (W.contents (inner_of writer.new)) (around front.now (paged names.now pages.now))) }
+    ensures some { IfErr result (λ _. SendsFront (W.contents (inner_of writer.old)) (W.contents (inner_of writer.new)) (around cases.entry.front.now (paged cases.entry.names.now cases.entry.pages.now))) }
     ensures counts { RunCounts 0 0 (failures_in writer.old) (failures_in writer.new) result }
 {
-    if writer.send(front).is_err() {
+    if writer.send(cases.front).is_err() {
         return Err(RunFault::Write);
     }
-    let code = write_round(alloc, names, pages, writer, errors, options)?;
+    let code = write_round(alloc, cases.names, cases.pages, writer, errors, options)?;
     if writer.send(b"</testsuite>\n").is_err() {
         return Err(RunFault::Write);
     }
@@ -120,22 +126,20 @@ fn send_around<W: Write, E: Write>(
 }
 
 // What is answered and written for each of some names, round by round.
-fn all_pages<Rt: Threads + Sync, O: Opener, G: Gate>(
-    rt: &Rt,
+fn all_pages<Rt: Threads + Sync, O: Opener>(
+    crew: &Crew<'_, Rt>,
     alloc: Global,
-    opener: &O,
-    names: &[Vec<u8>],
-    cutting: Cutting,
-    gate: &G,
+    files: &Files<'_, O>,
     options: FileOptions,
 ) -> Result<Vec<(Answer, Vec<u8>)>, AllocError>
-    ensures { IfOk result (λ pages. AreAnswered (O.opens opener.now) options names.now pages.items) }
+    ensures { IfOk result (λ pages. AreAnswered (O.opens files.now.opener.now) options files.now.names.now pages.items) }
 {
+    let Files { opener, names } = *files;
     let mut pages = Vec::new(alloc);
     let mut from = 0;
     while from < names.len() {
-        let round = round_at(names, from, cutting);
-        let mut more = pages_of(rt, alloc, opener, round, cutting, gate, options)?;
+        let round = round_at(names, from, crew.cutting);
+        let mut more = pages_of(crew, alloc, opener, round, options)?;
         pages.append(&mut more)?;
         from += round.len();
     }
@@ -144,29 +148,31 @@ fn all_pages<Rt: Threads + Sync, O: Opener, G: Gate>(
 
 /// Checks the texts of some names as `check_all` does. After all are judged, it writes a document of JUnit, a test suite with one case
 /// for each name, in their order. A case passes if its history is atomic. It has a failure if its history is not atomic, or has
-/// fewer completed views than `check` asks for. It has an error if its text is refused, or can't be opened or read. `case_input`
+/// fewer completed views than `check` asks for. It has an error if its text is refused, or can't be opened or read. `Question::TestCase`
 /// says what is in a case. The exit status, and the reasons on the error output, are those of `check_all` for reports.
 ///
 /// Memory holds the cases of all names, since the document begins with their counts. A document that can't be written ends in
 /// `Write`. If memory does not suffice for the case of a name without a status, lack of memory is its reason, and the case is missing.
-pub fn suite_all<Rt: Threads + Sync, O: Opener, W: Write, E: Write, G: Gate>(
-    rt: &Rt,
+pub fn suite_all<Rt: Threads + Sync, O: Opener, W: Write, E: Write>(
+    crew: &Crew<'_, Rt>,
     alloc: Global,
-    opener: &O,
-    names: &[Vec<u8>],
+    files: &Files<'_, O>,
     writer: &mut Counted<W>,
     errors: &mut Counted<E>,
-    cutting: Cutting,
-    gate: &G,
     check: CheckOptions,
 ) -> Result<u8, RunFault>
-    ensures all { IfOk result (WritesSuite (O.opens opener.now) check names.now (W.contents (inner_of writer.old)) (W.contents (inner_of writer.new))
+    ensures all { IfOk result (WritesSuite (O.opens files.now.opener.now) check files.now.names.now (W.contents (inner_of writer.old)) (W.contents (inner_of writer.new))
         (E.contents (inner_of errors.old)) (E.contents (inner_of errors.new)) (failures_in errors.old) (failures_in errors.new)) }
-    ensures some { IfErr result (λ _. SomeOfSuite (O.opens opener.now) check names.now (W.contents (inner_of writer.old)) (W.contents (inner_of writer.new))) }
+    ensures some { IfErr result (λ _. SomeOfSuite (O.opens files.now.opener.now) check files.now.names.now (W.contents (inner_of writer.old)) (W.contents (inner_of writer.new))) }
     ensures counts { RunCounts 0 0 (failures_in writer.old) (failures_in writer.new) result }
 {
     let options = options_of(check);
-    let pages = all_pages(rt, alloc, opener, names, cutting, gate, options)?;
+    let pages = all_pages(crew, alloc, files, options)?;
     let front = front_of(alloc, &pages)?;
-    send_around(alloc, &front, names, &pages, writer, errors, options)
+    let cases = Cases {
+        front: &front,
+        names: files.names,
+        pages: &pages,
+    };
+    send_around(alloc, cases, writer, errors, options)
 }

@@ -7,14 +7,14 @@ ghost use Rattle.snap_files.specs.inside.Files.{paged};
 ghost use Rattle.snap_files.specs.inside.Sums.{AreSums, Summed};
 ghost use Rattle.snap_files.specs.Sums.{Judged, SumsAll, SumsSome, counting, judged_of};
 
+use crate::crew::{Crew, Files};
 use crate::format::{FileOptions, Format};
 use crate::page::{Answer, code_of, told_of};
 use crate::round::{pages_of, round_at};
 use crate::sums::Sums;
 use snap_check::{CheckOptions, RunFault};
-use snap_core::{Counted, Gate};
+use snap_core::Counted;
 use snap_names::Opener;
-use snap_threads::Cutting;
 use std::alloc::{AllocError, Global};
 use std::io::Write;
 use std::thread::Threads;
@@ -58,25 +58,23 @@ fn count_round<E: Write>(
 }
 
 // Judges the texts of some names, round by round, and counts them.
-fn sums_of<Rt: Threads + Sync, O: Opener, E: Write, G: Gate>(
-    rt: &Rt,
+fn sums_of<Rt: Threads + Sync, O: Opener, E: Write>(
+    crew: &Crew<'_, Rt>,
     alloc: Global,
-    opener: &O,
-    names: &[Vec<u8>],
+    files: &Files<'_, O>,
     errors: &mut Counted<E>,
-    cutting: Cutting,
-    gate: &G,
     check: CheckOptions,
 ) -> Result<Sums, AllocError>
-    ensures { IfOk result (Summed (O.opens opener.now) check names.now (E.contents (inner_of errors.old)) (E.contents (inner_of errors.new))
+    ensures { IfOk result (Summed (O.opens files.now.opener.now) check files.now.names.now (E.contents (inner_of errors.old)) (E.contents (inner_of errors.new))
         (failures_in errors.old) (failures_in errors.new)) }
 {
+    let Files { opener, names } = *files;
     let options = options_of(check);
     let mut sums = Sums::new();
     let mut from = 0;
     while from < names.len() {
-        let round = round_at(names, from, cutting);
-        let pages = pages_of(rt, alloc, opener, round, cutting, gate, options)?;
+        let round = round_at(names, from, crew.cutting);
+        let pages = pages_of(crew, alloc, opener, round, options)?;
         count_round(alloc, round, &pages, errors, &mut sums, options)?;
         from += round.len();
     }
@@ -89,24 +87,21 @@ fn sums_of<Rt: Threads + Sync, O: Opener, E: Write, G: Gate>(
 /// `check_all`.
 ///
 /// Memory holds what one round needs, and no report of an earlier round. Sums that can't be written end in `Write`.
-pub fn sum_all<Rt: Threads + Sync, O: Opener, W: Write, E: Write, G: Gate>(
-    rt: &Rt,
+pub fn sum_all<Rt: Threads + Sync, O: Opener, W: Write, E: Write>(
+    crew: &Crew<'_, Rt>,
     alloc: Global,
-    opener: &O,
-    names: &[Vec<u8>],
+    files: &Files<'_, O>,
     writer: &mut Counted<W>,
     errors: &mut Counted<E>,
-    cutting: Cutting,
-    gate: &G,
     check: CheckOptions,
 ) -> Result<u8, RunFault>
-    ensures all { IfOk result (SumsAll (O.opens opener.now) check names.now (W.contents (inner_of writer.old)) (W.contents (inner_of writer.new))
+    ensures all { IfOk result (SumsAll (O.opens files.now.opener.now) check files.now.names.now (W.contents (inner_of writer.old)) (W.contents (inner_of writer.new))
         (E.contents (inner_of errors.old)) (E.contents (inner_of errors.new)) (failures_in errors.old) (failures_in errors.new)) }
-    ensures some { IfErr result (λ _. SumsSome (O.opens opener.now) check names.now (W.contents (inner_of writer.old)) (W.contents (inner_of writer.new))) }
+    ensures some { IfErr result (λ _. SumsSome (O.opens files.now.opener.now) check files.now.names.now (W.contents (inner_of writer.old)) (W.contents (inner_of writer.new))) }
     ensures counts { RunCounts 0 0 (failures_in writer.old) (failures_in writer.new) result }
 {
-    let sums = sums_of(rt, alloc, opener, names, errors, cutting, gate, check)?;
-    let text = sums.text(alloc, names)?;
+    let sums = sums_of(crew, alloc, files, errors, check)?;
+    let text = sums.text(alloc, files.names)?;
     if writer.send(&text).is_err() {
         return Err(RunFault::Write);
     }

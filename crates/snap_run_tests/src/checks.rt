@@ -57,16 +57,6 @@ pub(super) fn end_of(answer: Result<Status, RunFault>) -> &'static str {
     }
 }
 
-/// How a run ended, and what it wrote.
-pub(super) fn written(
-    alloc: Global,
-    answer: Result<Status, RunFault>,
-    writer: Counted<Vec<u8>>,
-) -> Result<(&'static str, String), Fail> {
-    let out = String::from_str(alloc, str::from_utf8(&writer.into_inner())?)?;
-    Ok((end_of(answer), out))
-}
-
 /// The cutting into `pieces` pieces for `workers` workers.
 pub(super) fn cutting(pieces: u32, workers: u32) -> Result<Cutting, Fail> {
     Ok(Cutting::new(pieces, workers)?)

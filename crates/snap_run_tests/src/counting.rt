@@ -1,10 +1,8 @@
 //! The counts of worked histories.
-use super::checks::{end_of, history, same, written};
-use snap_core::{Counted, Limit};
-use snap_runs::stats_run;
-use snap_testing::{Cup, Drip};
+use super::asking::answered;
+use super::checks::{history, same};
+use snap_runs::Question;
 use std::alloc::Global;
-use std::io::{Read, Write};
 use std::test::Fail;
 use std::thread::Threads;
 
@@ -12,13 +10,10 @@ use std::thread::Threads;
 fn counted<Rt: Threads + Sync>(
     rt: &Rt,
     alloc: Global,
-    name: Option<&str>,
+    name: Option<&[u8]>,
     text: &[u8],
 ) -> Result<(&'static str, String), Fail> {
-    let mut reader = Counted::new(text);
-    let mut writer = Counted::new(Vec::new(alloc));
-    let answer = stats_run(rt, alloc, name, &mut reader, &mut writer, Limit::usual());
-    written(alloc, answer, writer)
+    answered(rt, alloc, Question::Counts(name), text)
 }
 
 // Events, and the lines of what they show.
@@ -84,7 +79,7 @@ fn a_worked_history_has_this_object(rt: HostRuntime) -> Result<(), Fail> {
         \"unshown\":0,\"most_open\":2,\"longest\":4,\"shows_concurrency\":true,\
         \"by_component\":[{\"component\":0,\"writer\":0,\"updates\":1,\"views\":1}]}\n";
     same(
-        counted(&rt, alloc, Some("a \"b\""), text.as_bytes())?,
+        counted(&rt, alloc, Some(b"a \"b\""), text.as_bytes())?,
         ("recorded", String::from_str(alloc, known)?),
     )
 }
@@ -97,41 +92,7 @@ fn a_text_that_is_no_history_gets_its_first_fault(rt: HostRuntime) -> Result<(),
     same(counted(&rt, alloc, None, text)?, ("refused", line))?;
     let object = "{\"name\":\"-\",\"status\":3,\"refused\":{\"record\":2,\"fault\":\"idle\"}}\n";
     same(
-        counted(&rt, alloc, Some("-"), text)?,
+        counted(&rt, alloc, Some(b"-"), text)?,
         ("refused", String::from_str(alloc, object)?),
     )
-}
-
-// How the counting of a text ends, from a reader to a writer, and the failures that the two count.
-fn count_over<Rt: Threads + Sync, R: Read + Drop, W: Write + Drop>(
-    rt: &Rt,
-    alloc: Global,
-    reader: R,
-    writer: W,
-) -> (&'static str, u64, u64) {
-    let mut reader = Counted::new(reader);
-    let mut writer = Counted::new(writer);
-    let limit = Limit::usual();
-    let end = end_of(stats_run(rt, alloc, None, &mut reader, &mut writer, limit));
-    (end, reader.failures(), writer.failures())
-}
-
-#[test]
-fn a_device_that_fails_ends_the_counting(rt: HostRuntime) -> Result<(), Fail> {
-    let alloc = rt.alloc();
-    let text = history(alloc, "begin,0,view,\n")?;
-    let bytes = text.as_bytes();
-    let reads = bytes.len() as u64 + 1;
-    for fails_at in 1..=reads {
-        same(
-            count_over(&rt, alloc, Drip::new(bytes, fails_at), Vec::new(alloc)),
-            ("read failed", 1, 0),
-        )?;
-    }
-    for fails_at_flush in [false, true] {
-        let room = if fails_at_flush { 1000 } else { 5 };
-        let cup = Cup::new(alloc, room, 5, true, fails_at_flush);
-        same(count_over(&rt, alloc, bytes, cup), ("write failed", 0, 1))?;
-    }
-    Ok(())
 }

@@ -1,11 +1,9 @@
 //! The explanations of worked texts.
-use super::checks::{end_of, history, same, written};
-use snap_core::{Counted, Limit};
-use snap_explain::Entries;
-use snap_runs::explain_run;
-use snap_testing::{Cup, Drip};
+use super::asking::answered;
+use super::checks::{history, same};
+use snap_explain::{Detail, Entries};
+use snap_runs::Question;
 use std::alloc::Global;
-use std::io::{Read, Write};
 use std::test::Fail;
 use std::thread::Threads;
 
@@ -16,18 +14,11 @@ fn explained_by<Rt: Threads + Sync>(
     text: &[u8],
     faults: u32,
 ) -> Result<(&'static str, String), Fail> {
-    let mut reader = Counted::new(text);
-    let mut writer = Counted::new(Vec::new(alloc));
-    let answer = explain_run(
-        rt,
-        alloc,
-        &mut reader,
-        &mut writer,
-        Entries::OfFault,
+    let detail = Detail {
+        listed: Entries::OfFault,
         faults,
-        Limit::usual(),
-    );
-    written(alloc, answer, writer)
+    };
+    answered(rt, alloc, Question::Explanation(detail), text)
 }
 
 // How the explanation of a text ends, and what it writes.
@@ -148,47 +139,6 @@ fn a_text_that_is_no_history_gets_the_rule_that_it_breaks_and_the_record(
     for (text, known) in REFUSED {
         let known = String::from_str(alloc, known)?;
         same(explained(&rt, alloc, text.as_bytes())?, ("refused", known))?;
-    }
-    Ok(())
-}
-
-// How the explanation of a text ends, from a reader to a writer, and the failures that the two count.
-fn explain_over<Rt: Threads + Sync, R: Read + Drop, W: Write + Drop>(
-    rt: &Rt,
-    alloc: Global,
-    reader: R,
-    writer: W,
-) -> (&'static str, u64, u64) {
-    let mut reader = Counted::new(reader);
-    let mut writer = Counted::new(writer);
-    let end = end_of(explain_run(
-        rt,
-        alloc,
-        &mut reader,
-        &mut writer,
-        Entries::OfFault,
-        1,
-        Limit::usual(),
-    ));
-    (end, reader.failures(), writer.failures())
-}
-
-#[test]
-fn a_device_that_fails_ends_the_explanation(rt: HostRuntime) -> Result<(), Fail> {
-    let alloc = rt.alloc();
-    let text = history(alloc, "begin,0,view,\n")?;
-    let bytes = text.as_bytes();
-    let reads = bytes.len() as u64 + 1;
-    for fails_at in 1..=reads {
-        same(
-            explain_over(&rt, alloc, Drip::new(bytes, fails_at), Vec::new(alloc)),
-            ("read failed", 1, 0),
-        )?;
-    }
-    for fails_at_flush in [false, true] {
-        let room = if fails_at_flush { 1000 } else { 5 };
-        let cup = Cup::new(alloc, room, 5, true, fails_at_flush);
-        same(explain_over(&rt, alloc, bytes, cup), ("write failed", 0, 1))?;
     }
     Ok(())
 }

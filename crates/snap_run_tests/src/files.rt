@@ -3,8 +3,8 @@ ghost use Rattle.std.specs.Prelude.{⊤};
 
 use super::checks::same;
 use snap_check::{CheckOptions, RunFault};
-use snap_core::{Counted, OpenGate};
-use snap_files::{FileOptions, Format, check_all};
+use snap_core::Counted;
+use snap_files::{Crew, FileOptions, Files, Format, check_all};
 use snap_names::{Opener, Trouble};
 use snap_testing::{Cup, Drip};
 use snap_threads::Cutting;
@@ -85,17 +85,15 @@ fn check<Rt: Threads + Sync, W: Write>(
             ..CheckOptions::plain()
         },
     };
-    let answer = check_all(
+    let crew = Crew {
         rt,
-        alloc,
-        &Shelf,
-        names.as_slice(),
-        writer,
-        &mut errors,
-        Cutting::usual(),
-        &OpenGate,
-        options,
-    );
+        cutting: Cutting::usual(),
+    };
+    let files = Files {
+        opener: &Shelf,
+        names: names.as_slice(),
+    };
+    let answer = check_all(&crew, alloc, &files, writer, &mut errors, options);
     Ok((answer, errors.into_inner()))
 }
 

@@ -1,22 +1,9 @@
 //! The calls that witnesses of worked histories keep.
-use super::checks::{history, same, written};
-use snap_core::{Counted, Limit};
-use snap_runs::map_run;
+use super::asking::answered;
+use super::checks::{history, same};
+use snap_runs::Question;
 use std::alloc::Global;
 use std::test::Fail;
-use std::thread::Threads;
-
-// How the calls of a text are written, and the table.
-fn mapped<Rt: Threads + Sync>(
-    rt: &Rt,
-    alloc: Global,
-    text: &[u8],
-) -> Result<(&'static str, String), Fail> {
-    let mut reader = Counted::new(text);
-    let mut writer = Counted::new(Vec::new(alloc));
-    let answer = map_run(rt, alloc, &mut reader, &mut writer, Limit::usual());
-    written(alloc, answer, writer)
-}
 
 // The table of these lines.
 fn table(alloc: Global, lines: &str) -> Result<String, Fail> {
@@ -36,7 +23,7 @@ fn a_line_has_a_call_of_the_witness_beside_its_own(rt: HostRuntime) -> Result<()
     )?;
     let lines = "1,0,2,,2,0,4,\n2,1,3,4,3,1,5,6\n3,2,5,6,4,2,7,8\n";
     same(
-        mapped(&rt, alloc, text.as_bytes())?,
+        answered(&rt, alloc, Question::WitnessMap, text.as_bytes())?,
         ("regular", table(alloc, lines)?),
     )
 }
@@ -46,7 +33,7 @@ fn the_calls_of_an_atomic_history_are_their_own(rt: HostRuntime) -> Result<(), F
     let alloc = rt.alloc();
     let text = b"at,event,process,op,data\n7,end,1,view,\n2,begin,1,view,\n";
     same(
-        mapped(&rt, alloc, text)?,
+        answered(&rt, alloc, Question::WitnessMap, text)?,
         ("atomic", table(alloc, "1,1,2,3,1,1,3,2\n")?),
     )
 }
@@ -56,5 +43,5 @@ fn a_text_that_is_no_history_gets_its_refusal(rt: HostRuntime) -> Result<(), Fai
     let alloc = rt.alloc();
     let text = history(alloc, "begin,1,view,\nbegin,1,view,\n")?;
     let line = String::from_str(alloc, "refused record 3: busy\n")?;
-    same(mapped(&rt, alloc, text.as_bytes())?, ("refused", line))
+    same(answered(&rt, alloc, Question::WitnessMap, text.as_bytes())?, ("refused", line))
 }

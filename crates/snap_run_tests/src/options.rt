@@ -1,6 +1,6 @@
 //! Checks that are quiet, or that ask for a number of completed views.
 use super::checks::{STALE_REPORT, STALE_VIEW, cutting, end_of, history, history_up_to, same};
-use snap_check::{CheckOptions, RunFault, SHARED_FROM, SHARED_PIECES, Status, check_run_with};
+use snap_check::{CheckOptions, Checking, RunFault, SHARED_FROM, SHARED_PIECES, Status, check_run_with};
 use snap_core::{Counted, Gate, Limit, OpenGate};
 use snap_files::FileOptions;
 use snap_testing::{Cup, Drip, Held, Meeting};
@@ -97,8 +97,12 @@ fn run_with<Rt: Threads + Sync, R: Read, W: Write>(
     writer: &mut Counted<W>,
     options: CheckOptions,
 ) -> Result<&'static str, Fail> {
-    let cutting = cutting(8, 2)?;
-    let answer = check_run_with(rt, alloc, reader, writer, cutting, &OpenGate, options);
+    let checking = Checking {
+        cutting: cutting(8, 2)?,
+        gate: &OpenGate,
+        options,
+    };
+    let answer = check_run_with(rt, alloc, reader, writer, &checking);
     Ok(end_with(answer))
 }
 
@@ -224,7 +228,12 @@ fn judge_past<Rt: Threads + Sync, G: Gate>(
     let text = history_up_to(alloc, STALE_VIEW, bytes)?;
     let mut reader = Counted::new(text.as_bytes());
     let mut writer = Counted::new(Vec::new(alloc));
-    let answer = check_run_with(rt, alloc, &mut reader, &mut writer, cutting, gate, options);
+    let checking = Checking {
+        cutting,
+        gate,
+        options,
+    };
+    let answer = check_run_with(rt, alloc, &mut reader, &mut writer, &checking);
     same(end_with(answer), "irregular")?;
     same(str::from_utf8(&writer.into_inner())?, STALE_REPORT)
 }

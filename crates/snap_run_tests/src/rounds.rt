@@ -2,7 +2,7 @@
 use super::checks::{end_of, same};
 use super::recordings::{ATOMIC_HEAD, expect_stamps, expect_text};
 use snap_core::Counted;
-use snap_runs::{record_rounds, record_rounds_stamped};
+use snap_runs::{Rounds, Written, record_rounds};
 use snap_testing::Cup;
 use std::alloc::Global;
 use std::sync::Wait;
@@ -16,20 +16,18 @@ type Found = (&'static str, u64, Cup);
 fn rounds<Rt: Threads + Wait + Sync>(
     rt: &Rt,
     alloc: Global,
-    judge: bool,
+    written: Written,
     scan: bool,
     cup: Cup,
 ) -> Found {
+    let rounds = Rounds {
+        workers: 2,
+        rounds: 1,
+        scan,
+        seed: 0,
+    };
     let mut writer = Counted::new(cup);
-    let answer = record_rounds(rt, alloc, 2, 1, judge, scan, &mut writer);
-    let failures = writer.failures();
-    (end_of(answer), failures, writer.into_inner())
-}
-
-// One such round, written with stamps.
-fn stamped<Rt: Threads + Wait + Sync>(rt: &Rt, alloc: Global, scan: bool, cup: Cup) -> Found {
-    let mut writer = Counted::new(cup);
-    let answer = record_rounds_stamped(rt, alloc, 2, 1, scan, &mut writer);
+    let answer = record_rounds(rt, alloc, rounds, written, &mut writer);
     let failures = writer.failures();
     (end_of(answer), failures, writer.into_inner())
 }
@@ -46,24 +44,24 @@ fn expect_front(found: Found, front: &[u8]) -> Result<(), Fail> {
     same(cup.held.as_slice(), front)
 }
 
-// Whether the recording is judged, whether it scans, and what each run of it writes first.
-const FRONTS: &[(bool, bool, &[u8])] = &[
-    (false, false, b"event,process,op,data\nbegin,"),
-    (false, true, b"event,process,op,data\nbegin,"),
+// What is written, whether the recording scans, and what each run of it writes first.
+const FRONTS: &[(Written, bool, &[u8])] = &[
+    (Written::History, false, b"event,process,op,data\nbegin,"),
+    (Written::History, true, b"event,process,op,data\nbegin,"),
     (
-        true,
+        Written::Report,
         false,
         b"events 8 calls 4 pending 0 views 2\nregular yes\nmonotone yes\natomic ",
     ),
-    (true, true, ATOMIC_HEAD),
+    (Written::Report, true, ATOMIC_HEAD),
 ];
 
 #[test]
 fn rounds_whose_writer_fails_leave_a_front(rt: HostRuntime) -> Result<(), Fail> {
-    for (judge, scan, front) in FRONTS {
+    for (written, scan, front) in FRONTS {
         for room in 0..front.len() {
             let cup = small(rt.alloc(), room);
-            let found = rounds(&rt, rt.alloc(), *judge, *scan, cup);
+            let found = rounds(&rt, rt.alloc(), *written, *scan, cup);
             expect_front(found, &front[..room])?;
         }
     }
@@ -75,7 +73,7 @@ fn rounds_with_stamps_whose_writer_fails_leave_a_front(rt: HostRuntime) -> Resul
     let front = b"at,event,process,op,data\n0,begin,".as_slice();
     for scan in [false, true] {
         for room in 0..front.len() {
-            let found = stamped(&rt, rt.alloc(), scan, small(rt.alloc(), room));
+            let found = rounds(&rt, rt.alloc(), Written::Stamped, scan, small(rt.alloc(), room));
             expect_front(found, &front[..room])?;
         }
     }
@@ -93,7 +91,7 @@ const WIDE: &[(usize, bool, &str, u64)] = &[
 fn rounds_whose_flush_fails_are_written_whole(rt: HostRuntime) -> Result<(), Fail> {
     for (at_once, fails_at_flush, wanted, count) in WIDE {
         let cup = Cup::new(rt.alloc(), 1000, *at_once, true, *fails_at_flush);
-        let (end, failures, cup) = rounds(&rt, rt.alloc(), false, false, cup);
+        let (end, failures, cup) = rounds(&rt, rt.alloc(), Written::History, false, cup);
         same((end, failures, cup.flushes), (*wanted, *count, 1))?;
         expect_text(
             &cup.held,
@@ -108,7 +106,7 @@ fn rounds_whose_flush_fails_are_written_whole(rt: HostRuntime) -> Result<(), Fai
 fn rounds_with_stamps_whose_flush_fails_are_written_whole(rt: HostRuntime) -> Result<(), Fail> {
     for (at_once, fails_at_flush, wanted, count) in WIDE {
         let cup = Cup::new(rt.alloc(), 1000, *at_once, true, *fails_at_flush);
-        let (end, failures, cup) = stamped(&rt, rt.alloc(), false, cup);
+        let (end, failures, cup) = rounds(&rt, rt.alloc(), Written::Stamped, false, cup);
         same((end, failures, cup.flushes), (*wanted, *count, 1))?;
         expect_stamps(&cup.held, &["0", "1", "2", "3", "4", "5", "6", "7"])?;
     }
@@ -120,7 +118,7 @@ fn a_judged_round_whose_flush_fails_has_no_verdict_and_its_whole_report(
     rt: HostRuntime,
 ) -> Result<(), Fail> {
     let cup = Cup::new(rt.alloc(), 1000, 1000, true, true);
-    let (end, failures, cup) = rounds(&rt, rt.alloc(), true, true, cup);
+    let (end, failures, cup) = rounds(&rt, rt.alloc(), Written::Report, true, cup);
     same((end, failures, cup.flushes), ("write failed", 1, 1))?;
     let report = str::from_utf8(&cup.held)?;
     // the head, and a line for each of the four calls

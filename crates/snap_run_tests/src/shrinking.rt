@@ -1,12 +1,8 @@
 //! The witnesses to which worked histories are cut down.
-use super::checks::{end_of, history, same, written};
-use snap_core::{Counted, Limit};
-use snap_runs::shrink_run;
-use snap_testing::{Cup, Drip};
-use std::alloc::Global;
-use std::io::{Read, Write};
+use super::asking::answered;
+use super::checks::{history, same};
+use snap_runs::Question;
 use std::test::Fail;
-use std::thread::Threads;
 
 // Records after the header, how the run ends, and the records that are left.
 const CUT: &[(&str, &str, &str)] = &[
@@ -63,25 +59,13 @@ const LEFT: &[(&str, &str)] = &[
     ),
 ];
 
-// How a text is cut down, and what is written.
-fn shrink<Rt: Threads + Sync>(
-    rt: &Rt,
-    alloc: Global,
-    text: &[u8],
-) -> Result<(&'static str, String), Fail> {
-    let mut reader = Counted::new(text);
-    let mut writer = Counted::new(Vec::new(alloc));
-    let answer = shrink_run(rt, alloc, &mut reader, &mut writer, Limit::usual());
-    written(alloc, answer, writer)
-}
-
 #[test]
 fn a_history_is_cut_down_to_the_calls_of_its_first_fault(rt: HostRuntime) -> Result<(), Fail> {
     let alloc = rt.alloc();
     for (records, end, left) in CUT {
         let text = history(alloc, records)?;
         same(
-            shrink(&rt, alloc, text.as_bytes())?,
+            answered(&rt, alloc, Question::Witness, text.as_bytes())?,
             (*end, history(alloc, left)?),
         )?;
     }
@@ -94,7 +78,7 @@ fn where_nothing_is_to_be_left_out_the_history_stays(rt: HostRuntime) -> Result<
     for (records, end) in LEFT {
         let text = history(alloc, records)?;
         same(
-            shrink(&rt, alloc, text.as_bytes())?,
+            answered(&rt, alloc, Question::Witness, text.as_bytes())?,
             (*end, history(alloc, records)?),
         )?;
     }
@@ -106,7 +90,7 @@ fn stamps_are_not_written(rt: HostRuntime) -> Result<(), Fail> {
     let alloc = rt.alloc();
     let text = b"at,event,process,op,data\n7,end,1,view,\n2,begin,1,view,\n";
     let left = history(alloc, "begin,1,view,\nend,1,view,\n")?;
-    same(shrink(&rt, alloc, text)?, ("atomic", left))
+    same(answered(&rt, alloc, Question::Witness, text)?, ("atomic", left))
 }
 
 #[test]
@@ -114,39 +98,5 @@ fn a_text_that_is_no_history_gets_its_line(rt: HostRuntime) -> Result<(), Fail> 
     let alloc = rt.alloc();
     let text = history(alloc, "begin,0,view,\nbegin,0,view,\n")?;
     let line = String::from_str(alloc, "refused record 3: busy\n")?;
-    same(shrink(&rt, alloc, text.as_bytes())?, ("refused", line))
-}
-
-// How a text from a reader is cut down to a writer, and the failures that the two count.
-fn shrink_over<Rt: Threads + Sync, R: Read + Drop, W: Write + Drop>(
-    rt: &Rt,
-    alloc: Global,
-    reader: R,
-    writer: W,
-) -> (&'static str, u64, u64) {
-    let mut reader = Counted::new(reader);
-    let mut writer = Counted::new(writer);
-    let end = end_of(shrink_run(rt, alloc, &mut reader, &mut writer, Limit::usual()));
-    (end, reader.failures(), writer.failures())
-}
-
-#[test]
-fn a_device_that_fails_ends_the_run(rt: HostRuntime) -> Result<(), Fail> {
-    let alloc = rt.alloc();
-    let text = history(alloc, "begin,0,view,\n")?;
-    let refused = b"no history";
-    let bytes = text.as_bytes();
-    let full = || Cup::new(alloc, 5, 5, true, false);
-    same(
-        shrink_over(&rt, alloc, Drip::new(bytes, 9), Vec::new(alloc)),
-        ("read failed", 1, 0),
-    )?;
-    same(
-        shrink_over(&rt, alloc, bytes, full()),
-        ("write failed", 0, 1),
-    )?;
-    same(
-        shrink_over(&rt, alloc, refused.as_slice(), full()),
-        ("write failed", 0, 1),
-    )
+    same(answered(&rt, alloc, Question::Witness, text.as_bytes())?, ("refused", line))
 }

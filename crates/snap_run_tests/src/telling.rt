@@ -1,12 +1,8 @@
 //! The objects of worked texts.
-use super::checks::{end_of, history, same, written};
-use snap_check::CheckOptions;
-use snap_core::Counted;
-use snap_runs::tell_run;
-use snap_testing::{Cup, Drip};
-use snap_threads::Cutting;
+use super::asking::answered;
+use super::checks::{history, same};
+use snap_runs::{Named, Question};
 use std::alloc::Global;
-use std::io::{Read, Write};
 use std::test::Fail;
 use std::thread::Threads;
 
@@ -16,17 +12,10 @@ fn told<Rt: Threads + Sync>(
     alloc: Global,
     name: &str,
     text: &[u8],
-    least: u32,
+    views: u32,
 ) -> Result<(&'static str, String), Fail> {
-    let mut reader = Counted::new(text);
-    let mut writer = Counted::new(Vec::new(alloc));
-    let cutting = Cutting::usual();
-    let options = CheckOptions {
-        views: least,
-        ..CheckOptions::plain()
-    };
-    let answer = tell_run(rt, alloc, name, &mut reader, &mut writer, cutting, options);
-    written(alloc, answer, writer)
+    let name = name.as_bytes();
+    answered(rt, alloc, Question::Object(Named { name, views }), text)
 }
 
 // Events, how the answer ends, and the object without its name.
@@ -104,46 +93,4 @@ fn a_history_with_too_few_views_has_no_verdict(rt: HostRuntime) -> Result<(), Fa
         told(&rt, alloc, "-", text.as_bytes(), 2)?,
         ("refused", String::from_str(alloc, known)?),
     )
-}
-
-// How a text from a reader is answered to a writer, and the failures that the two count.
-fn tell_over<Rt: Threads + Sync, R: Read + Drop, W: Write + Drop>(
-    rt: &Rt,
-    alloc: Global,
-    reader: R,
-    writer: W,
-) -> (&'static str, u64, u64) {
-    let mut reader = Counted::new(reader);
-    let mut writer = Counted::new(writer);
-    let cutting = Cutting::usual();
-    let end = end_of(tell_run(
-        rt,
-        alloc,
-        "-",
-        &mut reader,
-        &mut writer,
-        cutting,
-        CheckOptions::plain(),
-    ));
-    (end, reader.failures(), writer.failures())
-}
-
-#[test]
-fn a_device_that_fails_ends_the_answer(rt: HostRuntime) -> Result<(), Fail> {
-    let alloc = rt.alloc();
-    let text = history(alloc, "begin,0,view,\n")?;
-    let bytes = text.as_bytes();
-    let reads = bytes.len() as u64 + 1;
-    for fails_at in 1..=reads {
-        same(
-            tell_over(&rt, alloc, Drip::new(bytes, fails_at), Vec::new(alloc)),
-            ("read failed", 1, 0),
-        )?;
-    }
-    for fails_at_flush in [false, true] {
-        let room = if fails_at_flush { 1000 } else { 5 };
-        let cup = Cup::new(alloc, room, 5, true, fails_at_flush);
-        same(tell_over(&rt, alloc, bytes, cup), ("write failed", 0, 1))?;
-    }
-    Ok(())
 }

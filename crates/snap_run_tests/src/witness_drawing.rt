@@ -1,26 +1,8 @@
 //! The pictures of witnesses of worked histories, line by line.
-use super::checks::{history, same, written};
-use snap_core::{Counted, Limit};
-use snap_draw::Window;
-use snap_runs::{Lines, draw_witness_run};
-use std::alloc::Global;
+use super::asking::answered;
+use super::checks::{history, same};
+use snap_runs::Question;
 use std::test::Fail;
-use std::thread::Threads;
-
-// How the witness of a text is drawn, and the picture.
-fn drawn<Rt: Threads + Sync>(
-    rt: &Rt,
-    alloc: Global,
-    text: &[u8],
-) -> Result<(&'static str, String), Fail> {
-    let lines = Lines {
-        window: Window::usual_lines(),
-    };
-    let mut reader = Counted::new(text);
-    let mut writer = Counted::new(Vec::new(alloc));
-    let answer = draw_witness_run(rt, alloc, &lines, &mut reader, &mut writer, Limit::usual());
-    written(alloc, answer, writer)
-}
 
 // The first call is not kept, so that the calls 2 to 4 are the calls 1 to 3 of the witness.
 #[test]
@@ -49,7 +31,7 @@ calls whose labels are cut
   call 2 (call 3 of the run) of process 1, records 3 and 4: view 0:1:1234567
 ";
     same(
-        drawn(&rt, alloc, text.as_bytes())?,
+        answered(&rt, alloc, Question::WitnessDrawn, text.as_bytes())?,
         ("regular", String::from_str(alloc, picture)?),
     )
 }
@@ -68,7 +50,7 @@ p1      (1 view --------)
 [ ] update  ( ) view  > no end  # place in the printed order, below
 ";
     same(
-        drawn(&rt, alloc, text.as_bytes())?,
+        answered(&rt, alloc, Question::WitnessDrawn, text.as_bytes())?,
         ("atomic", String::from_str(alloc, picture)?),
     )
 }

@@ -18,9 +18,7 @@ use Rattle.snap_explain.specs.declared.view.Entries.{Entries}
 use Rattle.snap_explain.specs.Explanations.{IsExplanation}
 use Rattle.snap_theory.specs.Levels.{printed_order}
 use Rattle.snap_report.specs.Reports.{has_no_fault}
-use Rattle.snap_format.specs.Records.{HaveRecords}
-use Rattle.snap_check.specs.declared.status.Status.{Status}
-use Rattle.snap_runs.specs.Drawing.{AnswersHistory, ArePartsOf, AreShapesOf, IsDrawing, IsDrawnText, Writes, order_drawn}
+use Rattle.snap_runs.specs.Drawing.{ArePartsOf, AreShapesOf, IsDrawing, Writes, order_drawn}
 
 pub order_is : (calls : List Call) (t : Tally) (order : Option (Bor (List ℕ))) → is_some order ≡ has_no_fault t → ForSome order (λ numbers. numbers.now ≡ map (λ (c : Call). c.number) (printed_order calls)) →
     option_map_or (λ (numbers : Bor (List ℕ)). numbers.now) order [] ≡ order_drawn calls t
@@ -56,7 +54,3 @@ drawing window given most kept listed Is es records sources t order shapes parts
       explained = explained;
       written = subst (λ os. Is es records sources shapes parts os said out.items) order_are w;
     }) written
-
-pub drawn_text : (most : ℕ) (window : Window) (held : ℕ) (listed : Entries) (Is : Writes) (text : List ℕ) (es : List Event) (records given : List ℕ) (answer : Option Status) (out : List ℕ) → HaveRecords most text es records → given ≡ records → AnswersHistory window held listed Is es given answer out → IsDrawnText most window held listed Is text answer out
-drawn_text most window held listed Is text es records given answer out have same e =
-    record { events = es; records = records; history = have; drawn = subst (λ rs. AnswersHistory window held listed Is es rs answer out) same e }

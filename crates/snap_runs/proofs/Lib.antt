@@ -3,7 +3,7 @@ pub mod Recordings
 pub mod Shrinking
 pub mod Mapping
 pub mod Tables
-pub mod Explaining
+pub mod Answering
 pub mod Counted
 pub mod Telling
 pub mod Drawings

@@ -15,10 +15,8 @@ use Rattle.snap_theory.proofs.First.{first_is}
 use Rattle.snap_witness.specs.Keeping.{calls_kept, numbers_kept}
 use Rattle.snap_witness.proofs.KeptCalls.{calls_are_kept, length-as_kept}
 use Rattle.snap_witness.proofs.Numbers.{kept_numbered, kept_within}
-use Rattle.snap_format.specs.Records.{HaveRecords}
-use Rattle.snap_check.specs.declared.status.Status.{Status}
 use Rattle.snap_runs.specs.Cutting.{AreOfWitness}
-use Rattle.snap_runs.specs.Mapping.{AreOfFault, AreSources, IsMapped, MapsHistory}
+use Rattle.snap_runs.specs.Mapping.{AreOfFault, AreSources}
 
 -- the numbers that are kept of a history, and what is left of it, are those of its first fault
 pub witness_numbers : (es : List Event) (left : List Event) (numbers : List ℕ) → IsBoundedHistory es → Some numbers ≡ option_map (numbers_kept es) (first_fault (calls_of es)) →
@@ -74,6 +72,3 @@ whole_sources es left numbers atomic same are =
 
 pub whole_below : (calls : List Call) (numbers : List ℕ) → numbers ≡ range_with_len 0 (length calls) → All (λ n. n < length calls) numbers
 whole_below calls numbers are = subst (All (λ n. n < length calls)) (sym are) (λ i d l. omega (arith, get_or-range_with_len 0 (length calls) i d (omega (arith, l, length-range_with_len 0 (length calls))), l, length-range_with_len 0 (length calls)))
-
-pub mapped_text : (limit : ℕ) (text : List ℕ) (es : List Event) (records given : List ℕ) (status : Status) (out : List ℕ) → HaveRecords limit text es records → given ≡ records → MapsHistory es given status out → IsMapped limit text status out
-mapped_text limit text es records given status out have same maps = inr (record { events = es; records = records; history = have; maps = subst (λ rs. MapsHistory es rs status out) same maps })

@@ -1,10 +1,9 @@
 -- What is written if a history is drawn.
-use Rattle.std.specs.Prelude.{◌≡◌, ◌⊎◌, ℕ, true, false, List, [], length, Option, Some, None, if◌then◌else◌, map}
+use Rattle.std.specs.Prelude.{◌≡◌, ℕ, true, false, List, [], length, Option, Some, None, if◌then◌else◌, map}
 use Rattle.snap_core.specs.declared.event.Event.{Event}
 use Rattle.snap_core.specs.Calls.{Call, calls_of, views_of}
 use Rattle.snap_conditions.specs.declared.tally.Tally.{Tally}
 use Rattle.snap_conditions.specs.Tally.{tally_of}
-use Rattle.snap_format.specs.Records.{HaveRecords}
 use Rattle.snap_draw.specs.declared.shapes.Shapes.{Shapes}
 use Rattle.snap_draw.specs.declared.window.Window.{Window}
 use Rattle.snap_draw.specs.Calls.{drawn_call}
@@ -16,9 +15,7 @@ use Rattle.snap_explain.specs.declared.view.Entries.{Entries}
 use Rattle.snap_explain.specs.Explanations.{IsExplanation}
 use Rattle.snap_theory.specs.Levels.{printed_order}
 use Rattle.snap_report.specs.Reports.{has_no_fault}
-use Rattle.snap_runs.specs.Explaining.{IsExplained}
 use Rattle.snap_check.specs.declared.status.Status.{Status}
-use Rattle.snap_check.specs.declared.status.Status.TheVariants.{Refused}
 use Rattle.snap_check.specs.Verdicts.{HasStatus}
 
 -- what a markup may write of the events of a history, their records, the numbers of its calls in a run that it is made from, its shapes,
@@ -61,15 +58,3 @@ abbrev pub AnswersHistory : Window → ℕ → Entries → Writes → List Event
 AnswersHistory window held listed Is events records (Some status) out =
     (has_call window.place (length (calls_of events)) ≡ true) × DrawsHistory window held listed Is events records [] status out
 AnswersHistory window held listed Is events records None out = (has_call window.place (length (calls_of events)) ≡ false) × (out ≡ [])
-
--- the answer to a text that is a history, if a history may have up to most events
-pub record IsDrawnText (most : ℕ) (window : Window) (held : ℕ) (listed : Entries) (Is : Writes) (text : List ℕ) (answer : Option Status) (out : List ℕ) : Type 0 where
-  pub events : List Event
-  pub records : List ℕ
-  pub history : HaveRecords most text events records
-  pub drawn : AnswersHistory window held listed Is events records answer out
-
--- the answer and what is written. A text with a fault is explained, and has no picture
-abbrev pub IsDrawn : ℕ → Window → ℕ → Entries → Writes → List ℕ → Option Status → List ℕ → Type 0
-IsDrawn most window held listed Is text answer out =
-    ((answer ≡ Some Refused) × IsExplained most listed 1 text Refused out) ⊎ IsDrawnText most window held listed Is text answer out

@@ -9,3 +9,4 @@ pub mod Drawing
 pub mod Markups
 pub mod WitnessDrawing
 pub mod TestCases
+pub mod Answers

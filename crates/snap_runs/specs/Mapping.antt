@@ -4,7 +4,6 @@ use Rattle.std.specs.List.{flat_map, range_with_len, zip}
 use Rattle.snap_core.specs.declared.event.Event.{Event}
 use Rattle.snap_core.specs.Calls.{Call, calls_of}
 use Rattle.snap_core.specs.Orders.{IsAtomic}
-use Rattle.snap_format.specs.Records.{HaveRecords}
 use Rattle.snap_theory.specs.FaultWitnesses.{Fault, fault_calls, fault_updates}
 use Rattle.snap_theory.specs.First.{first_fault}
 use Rattle.snap_theory.specs.Kept.{is_place_of}
@@ -13,7 +12,6 @@ use Rattle.snap_report.specs.Lines.{call_word}
 use Rattle.snap_witness.specs.Keeping.{as_kept, calls_kept}
 use Rattle.snap_explain.specs.Calls.{record_word}
 use Rattle.snap_check.specs.declared.status.Status.{Status}
-use Rattle.snap_check.specs.Reports.{IsRefused}
 use Rattle.snap_runs.specs.Shrinking.{IsCutTo}
 
 -- the record of the end of a call, if it has one
@@ -59,14 +57,3 @@ pub record MapsHistory (events : List Event) (records : List ℕ) (status : Stat
   pub cut : IsCutTo events status left
   pub are : AreSources events left sources
   pub writes : out ≡ map_text (range_with_len 2 (length left)) records (calls_of left) sources
-
--- the status and the table of a text that is a history, if a history may have up to limit events
-pub record IsMappedText (limit : ℕ) (text : List ℕ) (status : Status) (out : List ℕ) : Type 0 where
-  pub events : List Event
-  pub records : List ℕ
-  pub history : HaveRecords limit text events records
-  pub maps : MapsHistory events records status out
-
--- the status and what is written: a text with a fault is refused
-abbrev pub IsMapped : ℕ → List ℕ → Status → List ℕ → Type 0
-IsMapped limit text status out = IsRefused limit text status out ⊎ IsMappedText limit text status out

@@ -20,6 +20,8 @@ use Rattle.snap_check.specs.declared.fault.RunFault.TheVariants as faults
 use Rattle.snap_check.specs.declared.status.Status.{Status}
 use Rattle.snap_check.specs.declared.status.Status.TheVariants.{Atomic, Recorded, Regular}
 use Rattle.snap_check.specs.Reports.{IsReport}
+use Rattle.snap_runs.specs.declared.rounds.Written.{Written}
+use Rattle.snap_runs.specs.declared.rounds.Written.TheVariants.{History, Stamped, Report}
 
 -- a history that a board's run of these scripts has: regular and monotone, without a pending call, and atomic if no script has a collect.
 -- The process of a worker's number has the calls of that worker's script, in their order, each once, and no other. Scans that were
@@ -70,6 +72,12 @@ pub record IsRecordingReport (scripts : List (List Step)) (status : Status) (out
 abbrev pub IsRecorded : Bool → List (List Step) → Status → List ℕ → Type 0
 IsRecorded false scripts status out = IsRecordingText scripts status out
 IsRecorded true scripts status out = IsRecordingReport scripts status out
+
+-- what is written of a recording, by what is asked for
+abbrev pub IsWrittenAs : Written → List (List Step) → Status → List ℕ → Type 0
+IsWrittenAs History scripts = IsRecorded false scripts
+IsWrittenAs Stamped scripts = IsStampedRecording scripts
+IsWrittenAs Report scripts = IsRecorded true scripts
 
 -- what a writer holds before and after a run without a reader. A whole text of that kind went out, a front of one, or nothing
 

@@ -1,13 +1,11 @@
 -- What a history is cut down to.
-use Rattle.std.specs.Prelude.{◌≡◌, ◌≤◌, ◌⊎◌, ◌↔◌, ℕ, List, length}
+use Rattle.std.specs.Prelude.{◌≡◌, ◌≤◌, ◌↔◌, ℕ, List, length}
 use Rattle.snap_core.specs.declared.event.Event.{Event}
 use Rattle.snap_core.specs.Calls.{calls_of}
 use Rattle.snap_core.specs.Orders.{IsAtomic}
 use Rattle.snap_core.specs.Regular.{IsRegular}
 use Rattle.snap_format.specs.Layout.{history_text}
-use Rattle.snap_format.specs.Texts.{IsText}
 use Rattle.snap_check.specs.declared.status.Status.{Status}
-use Rattle.snap_check.specs.Reports.{IsRefused}
 use Rattle.snap_check.specs.Verdicts.{HasStatus}
 use Rattle.snap_theory.specs.First.{AreWholeCalls, HasFirstFault}
 
@@ -27,14 +25,8 @@ pub record IsCutTo (events : List Event) (status : Status) (left : List Event) :
   pub atomic : IsAtomic (calls_of events) → left ≡ events
   pub not_atomic : (IsAtomic (calls_of events) → ⊥) → IsWitnessOf events left
 
--- the status of a text that is a history, and the text of what it is cut to. A history may have up to limit events
-pub record IsCutText (limit : ℕ) (text : List ℕ) (status : Status) (out : List ℕ) : Type 0 where
-  pub events : List Event
+-- the status of a history, and the text of what it is cut to
+pub record ShrinksHistory (events : List Event) (status : Status) (out : List ℕ) : Type 0 where
   pub left : List Event
-  pub history : IsText limit text events
   pub cut : IsCutTo events status left
   pub writes : out ≡ history_text left
-
--- the status and what is written: a text with a fault is refused
-abbrev pub IsShrunk : ℕ → List ℕ → Status → List ℕ → Type 0
-IsShrunk limit text status out = IsRefused limit text status out ⊎ IsCutText limit text status out

@@ -1,5 +1,6 @@
--- What is written if a text is judged and the answer is a JSON object.
+-- The JSON object of a history.
 use Rattle.std.specs.Prelude.{◌≡◌, ◌<◌, ◌≤◌, ◌⊎◌, ◌↔◌, ℕ, List, IsTrue, length}
+use Rattle.std.specs.Str.Lossy.{utf8_lossy}
 use Rattle.snap_core.specs.declared.event.Event.{Event}
 use Rattle.snap_core.specs.Calls.{calls_of, views_of}
 use Rattle.snap_core.specs.Monotone.{IsMonotone}
@@ -7,16 +8,17 @@ use Rattle.snap_core.specs.Orders.{IsAtomic}
 use Rattle.snap_core.specs.Regular.{IsRegular}
 use Rattle.snap_conditions.specs.declared.tally.Tally.{Tally}
 use Rattle.snap_conditions.specs.Tally.{tally_of}
-use Rattle.snap_text.specs.declared.fault.TextFault.{TextFault}
-use Rattle.snap_format.specs.Records.{HaveRecords}
-use Rattle.snap_format.specs.Texts.{HasFault}
 use Rattle.snap_report.specs.Reports.{has_no_fault, has_no_local_fault, has_no_stale_view}
 use Rattle.snap_check.specs.declared.status.Status.{Status}
 use Rattle.snap_check.specs.declared.status.Status.TheVariants.{Refused}
 use Rattle.snap_check.specs.Statuses.{code_of}
 use Rattle.snap_check.specs.Verdicts.{HasStatus}
-use Rattle.snap_json.specs.Objects.{few_views_json, history_json, refusal_json}
+use Rattle.snap_json.specs.Objects.{few_views_json, history_json}
 use Rattle.snap_json.specs.Values.{IsLineOf}
+
+-- A name in an object, which is Unicode. U+FFFD replaces each sequence of bytes that is not UTF-8.
+abbrev pub object_name : List ℕ → List ℕ
+object_name name = utf8_lossy name
 
 -- the tally of all completed views
 abbrev pub whole_tally : List Event → Tally
@@ -40,22 +42,3 @@ pub record IsToldFew (name : List ℕ) (least : ℕ) (events : List Event) (stat
 abbrev pub TellsHistory : List ℕ → ℕ → List Event → List ℕ → Status → List ℕ → Type 0
 TellsHistory name least events records status out =
     IsToldFew name least events status out ⊎ ((least ≤ length (views_of (calls_of events))) × IsToldHistory name events records status out)
-
--- the status and the object of a text that is a history, if a history may have up to limit events
-pub record IsToldText (limit : ℕ) (name : List ℕ) (least : ℕ) (text : List ℕ) (status : Status) (out : List ℕ) : Type 0 where
-  pub events : List Event
-  pub records : List ℕ
-  pub history : HaveRecords limit text events records
-  pub told : TellsHistory name least events records status out
-
--- a text with a fault is refused: the object names its first fault and the place of that
-pub record IsToldRefusal (limit : ℕ) (name : List ℕ) (text : List ℕ) (status : Status) (out : List ℕ) : Type 0 where
-  pub place : ℕ
-  pub fault : TextFault
-  pub first : HasFault limit text place fault
-  pub answers : status ≡ Refused
-  pub line : IsLineOf (refusal_json name (code_of status) place fault) out
-
--- the status and the object of a text with a name, if a history needs least completed views and may have up to limit events
-abbrev pub IsTold : ℕ → List ℕ → ℕ → List ℕ → Status → List ℕ → Type 0
-IsTold limit name least text status out = IsToldRefusal limit name text status out ⊎ IsToldText limit name least text status out

@@ -1,13 +1,10 @@
--- The test case of a text that is judged.
-use Rattle.std.specs.Prelude.{◌≡◌, ◌<◌, ◌≤◌, ◌⊎◌, ◌++◌, ℕ, List, Option, Some, None, codes, decimal, length}
+-- The test case of a text.
+use Rattle.std.specs.Prelude.{◌≡◌, ◌<◌, ◌≤◌, ◌++◌, ℕ, List, Option, Some, None, codes, decimal, length}
 use Rattle.snap_core.specs.declared.event.Event.{Event}
 use Rattle.snap_core.specs.Calls.{calls_of, views_of}
 use Rattle.snap_core.specs.Orders.{IsAtomic}
 use Rattle.snap_text.specs.declared.fault.TextFault.{TextFault}
-use Rattle.snap_format.specs.Records.{HaveRecords}
-use Rattle.snap_format.specs.Texts.{HasFault}
 use Rattle.snap_check.specs.declared.status.Status.{Status}
-use Rattle.snap_check.specs.declared.status.Status.TheVariants.{Refused}
 use Rattle.snap_check.specs.Verdicts.{HasStatus}
 use Rattle.snap_explain.specs.declared.test_case.Ending.TheVariants.{Failure, Error}
 use Rattle.snap_explain.specs.declared.view.Entries.TheVariants.{OfFault}
@@ -36,23 +33,8 @@ abbrev pub IsHistoryCase : List ℕ → ℕ → List Event → List ℕ → Opti
 IsHistoryCase name least events records (Some status) out = (least ≤ length (views_of (calls_of events))) × IsJudgedCase name events records status out
 IsHistoryCase name least events records None out = (length (views_of (calls_of events)) < least) × (out ≡ ended_case Failure name (few_views_text least))
 
--- the case of a text that is a history, if a history may have up to limit events
-pub record IsTextCase (limit : ℕ) (name : List ℕ) (least : ℕ) (text : List ℕ) (answer : Option Status) (out : List ℕ) : Type 0 where
-  pub events : List Event
-  pub records : List ℕ
-  pub history : HaveRecords limit text events records
-  pub judged : IsHistoryCase name least events records answer out
-
--- a text with a fault is refused: its case has an error, which explains its first fault
-pub record IsRefusalCase (limit : ℕ) (name : List ℕ) (text : List ℕ) (answer : Option Status) (out : List ℕ) : Type 0 where
-  pub place : ℕ
-  pub fault : TextFault
-  pub first : HasFault limit text place fault
-  pub answers : answer ≡ Some Refused
+-- the case of a text that is not a history has an error, which explains its first fault
+pub record IsRefusalCase (name : List ℕ) (limit : ℕ) (text : List ℕ) (place : ℕ) (fault : TextFault) (out : List ℕ) : Type 0 where
   pub said : List ℕ
   pub explained : IsRefusalExplanation limit text place fault said
   pub case_is : out ≡ ended_case Error name said
-
--- the answer for a text and its case, if a history needs least completed views and may have up to limit events
-abbrev pub IsTestCase : ℕ → List ℕ → ℕ → List ℕ → Option Status → List ℕ → Type 0
-IsTestCase limit name least text answer out = IsRefusalCase limit name text answer out ⊎ IsTextCase limit name least text answer out

@@ -5,8 +5,7 @@ ghost use Rattle.snap_core.specs.Calls.{calls_of, views_of};
 ghost use Rattle.snap_core.specs.Events.{event_cap};
 ghost use Rattle.snap_conditions.specs.Tally.{tally_of};
 ghost use Rattle.snap_check.specs.Verdicts.{HasStatus};
-ghost use Rattle.snap_runs.specs.Cutting.{AreBeside, IsNumbered};
-ghost use Rattle.snap_runs.specs.Shrinking.{IsCutTo};
+ghost use Rattle.snap_runs.specs.Cutting.{IsNumbered};
 
 use snap_check::{Judging, Status, status_of};
 use snap_conditions::Tally;
@@ -43,8 +42,9 @@ pub(crate) fn numbered_witness(
     Ok(Some((left, numbers)))
 }
 
-// The status of the history of a text with this number of bytes, and its witness with the numbers of its calls.
-fn judged_witness<J: Judging>(
+/// The status of the history of a text with this number of bytes, and its witness with the numbers that the calls of that have in the
+/// history; none if it is atomic.
+pub(crate) fn judged_witness<J: Judging>(
     judging: &J,
     alloc: Global,
     history: &History,
@@ -58,23 +58,4 @@ fn judged_witness<J: Judging>(
     let (tally, _chain) = judging.tally_and_chain(alloc, &index, bytes)?;
     let found = numbered_witness(alloc, &index, &tally)?;
     Ok((status_of(&index, &tally), found))
-}
-
-// The status of the history of a text with this number of bytes, what it is cut down to, and the numbers that the calls of that have in
-// the history. There are none if it is atomic.
-pub(crate) fn cut<J: Judging>(
-    judging: &J,
-    alloc: Global,
-    history: History,
-    bytes: usize,
-) -> Result<(Status, History, Vec<u32>), AllocError>
-    requires ready { J.ready }
-    ensures cut { IfOk result (λ answer. IsCutTo history.events answer.0 answer.1.events) }
-    ensures beside { IfOk result (λ answer. AreBeside history.events answer.1.events answer.2.items) }
-{
-    let (status, found) = judged_witness(judging, alloc, &history, bytes)?;
-    match found {
-        Some((left, numbers)) => Ok((status, left, numbers)),
-        None => Ok((status, history, Vec::new(alloc))),
-    }
 }

@@ -1,27 +1,21 @@
-//! The run that draws a history.
+//! The picture of a history.
 ghost use Rattle.std.specs.Prelude.{◌≡◌, [], IfOk, IsSome, is_some, length, map};
 ghost use Rattle.std.specs.Option.{ForSome, option_map_or};
 ghost use Rattle.snap_core.specs.Calls.{calls_of, views_of};
-ghost use Rattle.snap_core.specs.Counting.{failures_in, inner_of};
 ghost use Rattle.snap_conditions.specs.Tally.{tally_of};
 ghost use Rattle.snap_theory.specs.Levels.{printed_order};
 ghost use Rattle.snap_report.specs.Reports.{has_no_fault};
-ghost use Rattle.snap_check.specs.Runs.{JudgeCounts, JudgesBy, RunCounts, WroteBy};
-ghost use Rattle.snap_runs.specs.Drawing.{AnswersHistory, DrawsHistory, IsDrawing, IsDrawn};
+ghost use Rattle.snap_runs.specs.Drawing.{AnswersHistory, DrawsHistory, IsDrawing};
 ghost use Rattle.snap_draw.specs.declared.window.Place.TheVariants.{Faults};
 
 use crate::markup::Markup;
-use snap_check::{Judging, RunFault, Status, Workers, status_of, workers_of};
+use snap_check::{Judging, Status, status_of};
 use snap_conditions::Tally;
-use snap_core::{Counted, History, Limit};
-use snap_csv::{ReadRefusal, read_records};
+use snap_core::History;
 use snap_draw::{Numbering, Picture, has_call, parts_of, shapes_of};
-use snap_explain::{explain, explain_refusal};
+use snap_explain::explain;
 use snap_index::Index;
-use snap_threads::Cutting;
 use std::alloc::{AllocError, Global};
-use std::io::{Read, Write};
-use std::thread::Threads;
 
 // The numbers of an order, none if there is no order.
 fn numbers_of<'x>(order: Option<&'x [u32]>) -> &'x [u32]
@@ -68,11 +62,6 @@ fn picture_of<'x, M: Markup>(
     )
 }
 
-/// The workers that look for the faults of a picture. A picture is usually made alone, so more workers share the pieces of a long text.
-pub(crate) fn workers<Rt: Threads + Sync>(rt: &Rt) -> Workers<'_, Rt> {
-    workers_of(rt, Cutting::new(8, 4).unwrap_or(Cutting::usual()))
-}
-
 // The status of a history, and its picture by its index and its numbering.
 fn drawn_by<J: Judging, M: Markup>(
     judging: &J,
@@ -109,8 +98,9 @@ pub(crate) fn drawn<J: Judging, M: Markup>(
     drawn_by(judging, alloc, markup, &index, numbering, bytes)
 }
 
-// The answer to a history and its picture, or nothing if it lacks the call that the window names.
-fn answered<J: Judging, M: Markup>(
+/// The answer to the history of a text with this number of bytes, and its picture by the records of its events; or nothing if it lacks the
+/// call that the window names.
+pub(crate) fn answered<J: Judging, M: Markup>(
     judging: &J,
     alloc: Global,
     markup: &M,
@@ -133,57 +123,4 @@ fn answered<J: Judging, M: Markup>(
     };
     let (status, text) = drawn_by(judging, alloc, markup, &index, numbering, bytes)?;
     Ok((Some(status), text))
-}
-
-/// The status of the text that a reader has, and its picture, or why it is not a history: what `draw_run` answers and writes.
-pub fn draw_input<J: Judging, R: Read, M: Markup>(
-    judging: &J,
-    alloc: Global,
-    markup: &M,
-    reader: &mut Counted<R>,
-    limit: Limit,
-) -> Result<(Option<Status>, Vec<u8>), RunFault>
-    requires ready { J.ready }
-    ensures answer { JudgesBy (IsDrawn limit.events (M.draws markup.now) M.holds (M.entries markup.now) M.writes) (R.remaining (inner_of reader.old)) result }
-    ensures given { (M.draws markup.now).place ≡ Faults → IfOk result (λ answer. IsSome answer.0) }
-    ensures counts { JudgeCounts (failures_in reader.old) (failures_in reader.new) result }
-{
-    let mut room = Vec::new(alloc);
-    match read_records(alloc, reader, &mut room, limit) {
-        Ok((history, records)) => {
-            let bytes = room.len();
-            Ok(answered(judging, alloc, markup, &history, &records, bytes)?)
-        }
-        Err(ReadRefusal::Text { place, fault }) => {
-            let text = explain_refusal(alloc, &room, place, fault, limit)?;
-            Ok((Some(Status::Refused), text))
-        }
-        Err(ReadRefusal::Device) => Err(RunFault::Read),
-        Err(ReadRefusal::Memory) => Err(RunFault::Memory),
-    }
-}
-
-/// Reads a history, and writes its picture in a markup. For a text that is not a history, the explanation of its first fault goes out.
-/// It answers `None` and writes nothing if the history lacks the call that the markup's window names. Otherwise the status is that of
-/// `check_run`. A history may have as many events as the limit says, and its text 1,024 times as many bytes.
-///
-/// Nothing is written until the whole text is built. After `Read` or `Memory` nothing went out. After `Write` a prefix of the text
-/// went out, perhaps all of it. The writer is flushed once at the end. The run returns if the reader and the writer do.
-pub fn draw_run<Rt: Threads + Sync, R: Read, W: Write, M: Markup>(
-    rt: &Rt,
-    alloc: Global,
-    markup: &M,
-    reader: &mut Counted<R>,
-    writer: &mut Counted<W>,
-    limit: Limit,
-) -> Result<Option<Status>, RunFault>
-    ensures wrote { WroteBy (IsDrawn limit.events (M.draws markup.now) M.holds (M.entries markup.now) M.writes) (R.remaining (inner_of reader.old)) (W.contents (inner_of writer.old)) (W.contents (inner_of writer.new)) result }
-    ensures given { (M.draws markup.now).place ≡ Faults → IfOk result (λ status. IsSome status) }
-    ensures counts { RunCounts (failures_in reader.old) (failures_in reader.new) (failures_in writer.old) (failures_in writer.new) result }
-{
-    let (status, text) = draw_input(&workers(rt), alloc, markup, reader, limit)?;
-    match writer.send(&text) {
-        Ok(()) => Ok(status),
-        Err(_) => Err(RunFault::Write),
-    }
 }

@@ -15,7 +15,7 @@ use snap_options::{MOST_CALLS, Scheme};
 use std::alloc::{AllocError, Global};
 
 /// A way to write a picture as text.
-pub trait Markup {
+pub(crate) trait Markup {
     // which calls of a history it draws
     ghost draws: { Self → Window };
 
@@ -48,7 +48,7 @@ pub trait Markup {
 
 /// SVG alone, of a window, in the colours of a scheme.
 #[derive(Clone, Copy, Debug)]
-pub struct Svg {
+pub(crate) struct Svg {
     pub scheme: Scheme,
     pub window: Window,
 }
@@ -56,20 +56,20 @@ pub struct Svg {
 /// A page with the SVG of a window in it, in the colours of a scheme. If none is given, it has those of the reader's system. Of a longer
 /// history it holds other calls too.
 #[derive(Clone, Copy, Debug)]
-pub struct Page {
+pub(crate) struct Page {
     pub scheme: Option<Scheme>,
     pub window: Window,
 }
 
 /// Lines of characters, of a window.
 #[derive(Clone, Copy, Debug)]
-pub struct Lines {
+pub(crate) struct Lines {
     pub window: Window,
 }
 
 /// The explanation, which lists these entries of the views of a fault, with the usual lines of characters below it.
 #[derive(Clone, Copy, Debug)]
-pub struct Explained {
+pub(crate) struct Explained {
     pub listed: Entries,
 }
 

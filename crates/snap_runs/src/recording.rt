@@ -8,7 +8,7 @@ ghost use Rattle.snap_runs.specs.Recordings.{HasStamps, IsRecorded, IsRecordingO
 ghost use Rattle.snap_check.specs.Verdicts.{IsVerdict};
 ghost use Rattle.snap_check.specs.declared.status.Status.TheVariants.{Atomic, Recorded};
 
-use snap_check::{CheckOptions, RunFault, Status, verdict};
+use snap_check::{CheckOptions, Checking, RunFault, Status, verdict};
 use snap_core::{Counted, Gate, History, OpenGate};
 use snap_csv::{write_history, write_history_stamped};
 use snap_record::{Plan, Recording, record_plan};
@@ -85,9 +85,12 @@ fn write_report<Rt: Threads + Wait + Sync, W: Write>(
     ensures counts { WriteCounts (failures_in writer.old) (failures_in writer.new) result }
 {
     let room = Vec::new(alloc);
-    let options = CheckOptions::plain();
-    let (Some(status), text) = verdict(rt, alloc, history, room, cutting, &OpenGate, options)?
-    else {
+    let checking = Checking {
+        cutting,
+        gate: &OpenGate,
+        options: CheckOptions::plain(),
+    };
+    let (Some(status), text) = verdict(rt, alloc, history, room, &checking)? else {
         // no number of views is too small
         unreachable!()
     };

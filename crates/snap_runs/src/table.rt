@@ -42,26 +42,25 @@ fn put_columns(
     put_end(out, records, call.ended)
 }
 
-// Adds the columns of a call, and those of the call that it is made from.
+// Adds the columns of a call, and those of the call that it is made from, by their two numbers.
 fn put_line(
     out: &mut Vec<u8>,
     left: &Index<'_>,
     mine: &[u32],
-    number: u32,
     index: &Index<'_>,
     theirs: &[u32],
-    source: u32,
+    pair: (u32, u32),
 ) -> Result<(), AllocError>
     requires mine { length mine.now ≡ length left.now }
-    requires number { number < length (calls_of left.now) }
+    requires number { pair.0 < length (calls_of left.now) }
     requires theirs { length theirs.now ≡ length index.now }
-    requires source { source < length (calls_of index.now) }
+    requires source { pair.1 < length (calls_of index.now) }
     ensures { OnOk result (out.new.items ≡ out.old.items
-        ++ map_line mine.now theirs.now (call_numbered (calls_of left.now) number, call_numbered (calls_of index.now) source)) }
+        ++ map_line mine.now theirs.now (call_numbered (calls_of left.now) pair.0, call_numbered (calls_of index.now) pair.1)) }
 {
-    put_columns(out, left, mine, number)?;
+    put_columns(out, left, mine, pair.0)?;
     out.extend_from_slice(b",")?;
-    put_columns(out, index, theirs, source)?;
+    put_columns(out, index, theirs, pair.1)?;
     out.extend_from_slice(b"\n")
 }
 
@@ -86,8 +85,8 @@ pub(crate) fn table_of(
     let mut out = Vec::new(alloc);
     out.extend_from_slice(b"call,process,begin,end,of call,of process,of begin,of end\n")?;
     for number in 0..count {
-        let source = sources[number as usize];
-        put_line(&mut out, left, mine, number, index, theirs, source)?;
+        let pair = (number, sources[number as usize]);
+        put_line(&mut out, left, mine, index, theirs, pair)?;
     }
     Ok(out)
 }

@@ -4,7 +4,7 @@ ghost use Rattle.std.specs.Prelude.{◌≡◌};
 ghost use Rattle.snap_conditions.specs.Tally.{tally_of};
 
 use crate::fault::{Fault, expect};
-use snap_check::{Status, brief_verdict_of, judge_text, verdict_of_chain};
+use snap_check::{Status, brief_verdict_of, judge_text, order_by, verdict_of};
 use snap_conditions::{Tally, is_atomic, tally_range};
 use snap_core::{Counted, Event, History, Limit};
 use snap_csv::{
@@ -254,8 +254,9 @@ fn report_along_chain<R: Threads + Sync>(
     let history = history_of(alloc, VIEW_BESIDE_UPDATE)?;
     let index = Index::build(alloc, &history)?;
     let (tally, chain) = tally_and_chain_alone(alloc, &index)?;
+    let order = order_by(rt, alloc, &index, &tally, chain, 2)?;
     let room = Vec::new(alloc);
-    Ok(verdict_of_chain(rt, alloc, &index, &tally, chain, room, 2)?)
+    Ok(verdict_of(rt, &index, &tally, order.as_deref(), room, 2)?)
 }
 
 /// The status and the report along a chain. If memory is refused, both are made once more.

@@ -1,7 +1,7 @@
 //! What the texts of some names have shown.
 use snap_commands::{Failure, Outlet, stats, system};
-use snap_core::{Counted, Limit, OpenGate};
-use snap_files::{FileOptions, check_all};
+use snap_core::{Counted, Limit};
+use snap_files::{Crew, FileOptions, Files, check_all};
 use snap_threads::Cutting;
 use std::thread::Threads;
 
@@ -15,17 +15,17 @@ fn count_names<Rt: Threads + Sync>(
 ) -> Result<u8, Failure> {
     let mut writer = Counted::new(Outlet::new(host.stdout()));
     let mut errors = Counted::new(host.stderr());
-    match check_all(
+    let crew = Crew {
         rt,
-        host.alloc(),
-        &system(host),
+        cutting: Cutting::usual(),
+    };
+    let files = Files {
+        opener: &system(host),
         names,
-        &mut writer,
-        &mut errors,
-        Cutting::usual(),
-        &OpenGate,
-        FileOptions::counts(json, limit),
-    ) {
+    };
+    let options = FileOptions::counts(json, limit);
+    let alloc = host.alloc();
+    match check_all(&crew, alloc, &files, &mut writer, &mut errors, options) {
         Ok(code) => Ok(code),
         Err(fault) => Err(Failure::of_run(fault, &writer.into_inner())),
     }

@@ -1,12 +1,29 @@
 //! The run of each job.
+ghost use Rattle.std.specs.Prelude.{◌≡◌, false, true};
 ghost use Rattle.snap_words.specs.Jobs.{IsInRange};
 
 use crate::check::check;
 use crate::counts::count;
-use snap_commands::{Failure, draw, explain, follow, record, shrink};
+use snap_commands::{Failure, answer, draw, explanation, follow, record, witness};
+use snap_runs::{Rounds, Written};
 use snap_words::Job;
 use std::sync::Wait;
 use std::thread::Threads;
+
+// What is written of a recording. A job asks for a report or for stamps, but not for both.
+fn written_of(judge: bool, stamped: bool) -> Written
+    ensures stamped { stamped ≡ true → result ≡ Written.Stamped }
+    ensures report { stamped ≡ false → judge ≡ true → result ≡ Written.Report }
+    ensures history { stamped ≡ false → judge ≡ false → result ≡ Written.History }
+{
+    if stamped {
+        Written::Stamped
+    } else if judge {
+        Written::Report
+    } else {
+        Written::History
+    }
+}
 
 /// Does a job, and gives its exit status. The threads are those of `rt`; everything else is the host's.
 pub(crate) fn done<Rt: Threads + Wait + Sync>(
@@ -32,14 +49,20 @@ pub(crate) fn done<Rt: Threads + Wait + Sync>(
             shrunk,
             limit,
             file,
-        } => shrink(rt, host, &file, shrunk, limit),
+        } => answer(rt, host, &file, witness(shrunk), limit),
         Job::Explain {
             drawn,
             whole,
             faults,
             limit,
             file,
-        } => explain(rt, host, &file, drawn, whole, faults, limit),
+        } => answer(
+            rt,
+            host,
+            &file,
+            explanation(drawn, whole, faults),
+            limit,
+        ),
         Job::Draw {
             form,
             part,
@@ -54,6 +77,14 @@ pub(crate) fn done<Rt: Threads + Wait + Sync>(
             scan,
             stamped,
             seed,
-        } => record(rt, host, workers, rounds, judge, scan, stamped, seed),
+        } => {
+            let rounds = Rounds {
+                workers,
+                rounds,
+                scan,
+                seed,
+            };
+            record(rt, host, rounds, written_of(judge, stamped))
+        }
     }
 }

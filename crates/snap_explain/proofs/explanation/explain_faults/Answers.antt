@@ -11,4 +11,4 @@ pub returns-in-Some : goal.returns-in-Some
 returns-in-Some c =
     let calls = calls_of c.args.index.now in
     let atomic : has_no_fault (tally_of calls (views_of calls)) ≡ true = sym (ap (λ (t : Tally). has_no_fault t) c.requires.tally) ∙ sym c.requires.given ∙ ap is_some c.in-Some.is in
-    IfOk-weaker c.explain.result _ _ (λ text e. e ∙ long_of_atomic c.args.most c.args.listed c.args.records.now calls (tally_of calls (views_of calls)) atomic) c.explain.ensures
+    IfOk-weaker c.explain.result _ _ (λ text e. e ∙ long_of_atomic c.args.detail.faults c.args.detail.listed c.args.records.now calls (tally_of calls (views_of calls)) atomic) c.explain.ensures

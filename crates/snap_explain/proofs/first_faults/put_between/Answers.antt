@@ -11,25 +11,25 @@ pub loop-place-init : goal.loop-place-init
 loop-place-init g c =
     let calls = calls_of c.args.index.now in
     let text = g.F.Explained.text c.args.listed c.args.records.now calls in
-    subst (λ rs. IsTold text c.args.left (firsts_among g.F.Explained.first calls rs) c.args.out.now.items c.args.out.now.items c.args.left) (sym (empty_between calls c.args.from)) (told_none text c.args.left c.args.out.now.items)
+    subst (λ rs. IsTold text c.args.left (firsts_among g.F.Explained.first calls rs) c.args.out.now.items c.args.out.now.items c.args.left) (sym (empty_between calls c.args.between.0)) (told_none text c.args.left c.args.out.now.items)
 
 pub loop-place-preserved : goal.loop-place-preserved
 loop-place-preserved g c =
     let calls = calls_of c.args.index.now in
     let text = g.F.Explained.text c.args.listed c.args.records.now calls in
-    let next = one_more calls c.args.from c.loop-place.place c.loop-place.auto.place (omega (arith, c.loop-place-test.true, c.requires.views)) in
+    let next = one_more calls c.args.between.0 c.loop-place.place c.loop-place.auto.place (omega (arith, c.loop-place-test.true, c.requires.views)) in
     subst (λ rs. IsTold text c.args.left (firsts_among g.F.Explained.first calls rs) c.args.out.now.items c.put_at.new.out.items c.in_ok-more.more) (sym next)
     (told_next text g.F.Explained.first calls _ _ c.args.left _ _ _ _ _ c.loop-place.invariant c.in_ok-more.ensures.text c.in_ok-more.ensures.more)
 
 pub returns-clause-text : goal.returns-clause-text
 returns-clause-text g c =
     let calls = calls_of c.args.index.now in
-    let end : c.loop-place.place ≡ c.args.to = omega (arith, c.loop-place-test.false, c.loop-place.auto.place-end c.requires.order) in
-    subst (λ to. c.loop-place.out.items ≡ c.args.out.now.items ++ flat_map (g.F.Explained.text c.args.listed c.args.records.now calls) (take c.args.left (firsts_among g.F.Explained.first calls (views_between calls c.args.from to)))) end
+    let end : c.loop-place.place ≡ c.args.between.1 = omega (arith, c.loop-place-test.false, c.loop-place.auto.place-end c.requires.order) in
+    subst (λ to. c.loop-place.out.items ≡ c.args.out.now.items ++ flat_map (g.F.Explained.text c.args.listed c.args.records.now calls) (take c.args.left (firsts_among g.F.Explained.first calls (views_between calls c.args.between.0 to)))) end
     c.loop-place.invariant.said
 
 pub returns-clause-more : goal.returns-clause-more
 returns-clause-more g c =
     let calls = calls_of c.args.index.now in
-    let end : c.loop-place.place ≡ c.args.to = omega (arith, c.loop-place-test.false, c.loop-place.auto.place-end c.requires.order) in
-    subst (λ to. c.loop-place.more + length (take c.args.left (firsts_among g.F.Explained.first calls (views_between calls c.args.from to))) ≡ c.args.left) end c.loop-place.invariant.more
+    let end : c.loop-place.place ≡ c.args.between.1 = omega (arith, c.loop-place-test.false, c.loop-place.auto.place-end c.requires.order) in
+    subst (λ to. c.loop-place.more + length (take c.args.left (firsts_among g.F.Explained.first calls (views_between calls c.args.between.0 to))) ≡ c.args.left) end c.loop-place.invariant.more

@@ -14,12 +14,12 @@ counts_of pages = suite_front (length pages) (count_by (λ page. is_failure page
 
 pub send_around-requires : goal.send_around-requires
 send_around-requires g c =
-    ap length c.deref-3.ensures.value ∙ AllZip-long _ c.args.names.now c.in_ok-pages.pages.items c.in_ok-pages.ensures
+    ap length c.deref-3.ensures.value ∙ AllZip-long _ c.args.files.now.names.now c.in_ok-pages.pages.items c.in_ok-pages.ensures
 
 pub returns-clause-all : goal.returns-clause-all
 returns-clause-all g c =
-    let opens = g.O.Opener.opens c.args.opener.now in
-    let names = c.args.names.now in
+    let opens = g.O.Opener.opens c.args.files.now.opener.now in
+    let names = c.args.files.now.names.now in
     let options = c.options_of-options.result in
     let answered = subst (λ ps. AreAnswered opens options names ps) (sym c.deref-3.ensures.value) c.in_ok-pages.ensures in
     let same = ap length c.deref-3.ensures.value ∙ AllZip-long _ names c.in_ok-pages.pages.items c.in_ok-pages.ensures in
@@ -29,8 +29,8 @@ returns-clause-all g c =
 
 pub returns-clause-some : goal.returns-clause-some
 returns-clause-some g c =
-    let opens = g.O.Opener.opens c.args.opener.now in
-    let names = c.args.names.now in
+    let opens = g.O.Opener.opens c.args.files.now.opener.now in
+    let names = c.args.files.now.names.now in
     let options = c.options_of-options.result in
     let answered = subst (λ ps. AreAnswered opens options names ps) (sym c.deref-3.ensures.value) c.in_ok-pages.ensures in
     let same = ap length c.deref-3.ensures.value ∙ AllZip-long _ names c.in_ok-pages.pages.items c.in_ok-pages.ensures in

@@ -7,17 +7,17 @@ use Rattle.snap_files.proofs.sum.sum_all.Goals as goal
 
 pub returns-then-is_err-clause-some : goal.returns-then-is_err-clause-some
 returns-then-is_err-clause-some g c =
-    let opens = g.O.Opener.opens c.args.opener.now in
+    let opens = g.O.Opener.opens c.args.files.now.opener.now in
     let all = c.in_ok-sums.ensures in
-    let text = c.in_ok-text.ensures (judged_of all.pages) (names_are opens (counting c.args.check) c.args.names.now all.pages all.each) all.sums_are in
+    let text = c.in_ok-text.ensures (judged_of all.pages) (names_are opens (counting c.args.check) c.args.files.now.names.now all.pages all.each) all.sums_are in
     let sent = rw (c.deref.ensures.value, text) at c.send.ensures.bytes in
     inr (record { pages = all.pages; each = all.each; wrote = sent_front _ _ _ c.send.result sent })
 
 pub returns-clause-all : goal.returns-clause-all
 returns-clause-all g c =
-    let opens = g.O.Opener.opens c.args.opener.now in
+    let opens = g.O.Opener.opens c.args.files.now.opener.now in
     let all = c.in_ok-sums.ensures in
-    let text = c.in_ok-text.ensures (judged_of all.pages) (names_are opens (counting c.args.check) c.args.names.now all.pages all.each) all.sums_are in
+    let text = c.in_ok-text.ensures (judged_of all.pages) (names_are opens (counting c.args.check) c.args.files.now.names.now all.pages all.each) all.sums_are in
     let sent = rw (c.deref.ensures.value, text) at c.send.ensures.bytes in
     record {
       pages = all.pages;

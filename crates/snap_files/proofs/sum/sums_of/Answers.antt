@@ -15,8 +15,8 @@ count_round-requires g c =
 
 pub loop-from-preserved : goal.loop-from-preserved
 loop-from-preserved g c =
-    let opens = g.O.Opener.opens c.args.opener.now in
-    let names = c.args.names.now in
+    let opens = g.O.Opener.opens c.args.files.now.opener.now in
+    let names = c.args.files.now.names.now in
     let from = c.loop-from.from in
     let round = c.round_at-round.result.now in
     let pages = c.deref.result.now in
@@ -36,4 +36,4 @@ loop-from-preserved g c =
 
 pub returns : goal.returns
 returns g c =
-    all_summed (g.O.Opener.opens c.args.opener.now) c.args.check c.args.names.now c.loop-from.from _ _ _ _ c.loop-from.sums (omega (arith, c.loop-from-test.false)) c.loop-from.invariant.summed
+    all_summed (g.O.Opener.opens c.args.files.now.opener.now) c.args.check c.args.files.now.names.now c.loop-from.from _ _ _ _ c.loop-from.sums (omega (arith, c.loop-from-test.false)) c.loop-from.invariant.summed

@@ -3,4 +3,4 @@ use Rattle.snap_runs.specs.Explaining.{ExplainsHistory}
 use Rattle.snap_runs.proofs.explain.explained.Goals as goal
 
 pub returns : goal.returns
-returns g c = subst (λ es. IfOk c.explained_by.result (λ answer. ExplainsHistory c.args.listed c.args.faults es c.args.records.now answer.0 answer.1.items)) c.in_ok-index.ensures c.explained_by.ensures
+returns g c = subst (λ es. IfOk c.explained_by.result (λ answer. ExplainsHistory c.args.detail es c.args.records.now answer.0 answer.1.items)) c.in_ok-index.ensures c.explained_by.ensures

@@ -1,17 +1,16 @@
-use Rattle.std.proofs.Common.{◌∙◌, ap, refl}
-use Rattle.std.proofs.lemmas.Bool.{false≢true}
-use Rattle.snap_explain.specs.declared.test_case.Ending.TheVariants.{Failure}
-use Rattle.snap_explain.specs.TestCases.{ended_case}
-use Rattle.snap_runs.proofs.TestCases.{case_fails, case_passes}
+use Rattle.std.proofs.Common.{◌≤◌, ◌<◌, ap, arith, length, subst}
+use Rattle.snap_core.specs.Calls.{calls_of, views_of}
+use Rattle.snap_runs.specs.TestCases.{IsJudgedCase}
 use Rattle.snap_runs.proofs.test_case.judged_case.Goals as goal
 
-pub returns-then-is_atomic : goal.returns-then-is_atomic
-returns-then-is_atomic g c =
-    case_passes c.args.name.now c.args.index.now c.args.records.now c.in_ok-tally.tally c.status_of-status.result c.in_ok-text.text.items
-    c.event_count-events.ensures.kept c.in_ok-tally.ensures.tally c.status_of-status.ensures (c.if-is_atomic.ensures.0 refl) c.in_ok-text.ensures
+pub returns-then-view_count-named : goal.returns-then-view_count-named
+returns-then-view_count-named g c =
+    let same = ap (λ es. length (views_of (calls_of es))) c.in_ok-index.ensures in
+    let few : length (views_of (calls_of c.args.history.now.events)) < c.args.named.views = omega (arith, same, c.view_count.ensures, c.if-view_count-named.true) in
+    (few, c.in_ok-text.ensures)
 
 pub returns : goal.returns
 returns g c =
-    case_fails c.args.name.now c.args.index.now c.args.records.now c.in_ok-tally.tally c.status_of-status.result c.in_ok-said.said.items c.in_ok-text-2.text.items
-    c.event_count-events.ensures.kept c.in_ok-tally.ensures.tally c.status_of-status.ensures (λ none. false≢true (c.if-is_atomic.ensures.1 none)) c.in_ok-said.ensures
-    (c.in_ok-text-2.ensures ∙ ap (ended_case Failure c.args.name.now) c.deref.ensures.value)
+    let same = ap (λ es. length (views_of (calls_of es))) c.in_ok-index.ensures in
+    let enough : c.args.named.views ≤ length (views_of (calls_of c.args.history.now.events)) = omega (arith, same, c.view_count.ensures, c.if-view_count-named.false) in
+    (enough, subst (λ es. IsJudgedCase c.args.named.name.now es c.args.records.now c.in_ok-status.status c.in_ok-status.text.items) c.in_ok-index.ensures c.in_ok-status.ensures)
