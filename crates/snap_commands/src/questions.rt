@@ -1,5 +1,5 @@
 //! The question that each command asks about its text.
-ghost use Rattle.std.specs.Prelude.{◌≡◌, false, true, unwrap_or};
+ghost use Rattle.std.specs.Prelude.{◌≡◌, unwrap_or};
 ghost use Rattle.snap_commands.specs.Pictures.{place_of as spec_place_of, usual_calls as spec_usual_calls, window_of as spec_window_of};
 ghost use Rattle.snap_commands.specs.Questions.{entries_of as spec_entries_of, explanation as spec_explanation, picture as spec_picture, witness as spec_witness};
 ghost use Rattle.snap_runs.specs.Answers.{IsAlwaysAnswered};

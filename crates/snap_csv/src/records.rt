@@ -88,7 +88,10 @@ pub fn read_records_with<Rt: Threads + Sync, R: Read>(
     ensures room { IfSome (R.remaining (inner_of reader.old)) (λ text. Leaves text room.new.items result) }
 {
     let plain = take_in(alloc, reader, room, limit)?;
-    listed(alloc, numbered_shared(rt, alloc, room, plain, limit, cutting))
+    listed(
+        alloc,
+        numbered_shared(rt, alloc, room, plain, limit, cutting),
+    )
 }
 
 // A copy of the fields of a record.

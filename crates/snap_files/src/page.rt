@@ -1,5 +1,5 @@
 //! What is answered, written and said for one name.
-ghost use Rattle.std.specs.Prelude.{◌≡◌, ◌<◌, ◌++◌, IfOk, IfSome, MatchResult, Ok, Err};
+ghost use Rattle.std.specs.Prelude.{◌≡◌, ◌<◌, IfOk, IfSome, Ok, Err};
 ghost use Rattle.snap_core.specs.Counting.{failures_in, inner_of};
 ghost use Rattle.snap_check.specs.declared.fault.RunFault.TheVariants as faults;
 ghost use Rattle.snap_json.specs.Objects.{trouble_json};

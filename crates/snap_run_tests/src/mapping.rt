@@ -43,5 +43,8 @@ fn a_text_that_is_no_history_gets_its_refusal(rt: HostRuntime) -> Result<(), Fai
     let alloc = rt.alloc();
     let text = history(alloc, "begin,1,view,\nbegin,1,view,\n")?;
     let line = String::from_str(alloc, "refused record 3: busy\n")?;
-    same(answered(&rt, alloc, Question::WitnessMap, text.as_bytes())?, ("refused", line))
+    same(
+        answered(&rt, alloc, Question::WitnessMap, text.as_bytes())?,
+        ("refused", line),
+    )
 }

@@ -1,6 +1,8 @@
 //! Checks that are quiet, or that ask for a number of completed views.
 use super::checks::{STALE_REPORT, STALE_VIEW, cutting, end_of, history, history_up_to, same};
-use snap_check::{CheckOptions, Checking, RunFault, SHARED_FROM, SHARED_PIECES, Status, check_run_with};
+use snap_check::{
+    CheckOptions, Checking, RunFault, SHARED_FROM, SHARED_PIECES, Status, check_run_with,
+};
 use snap_core::{Counted, Gate, Limit, OpenGate};
 use snap_files::FileOptions;
 use snap_testing::{Cup, Drip, Held, Meeting};

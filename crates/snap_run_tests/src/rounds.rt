@@ -73,7 +73,13 @@ fn rounds_with_stamps_whose_writer_fails_leave_a_front(rt: HostRuntime) -> Resul
     let front = b"at,event,process,op,data\n0,begin,".as_slice();
     for scan in [false, true] {
         for room in 0..front.len() {
-            let found = rounds(&rt, rt.alloc(), Written::Stamped, scan, small(rt.alloc(), room));
+            let found = rounds(
+                &rt,
+                rt.alloc(),
+                Written::Stamped,
+                scan,
+                small(rt.alloc(), room),
+            );
             expect_front(found, &front[..room])?;
         }
     }

@@ -90,7 +90,10 @@ fn stamps_are_not_written(rt: HostRuntime) -> Result<(), Fail> {
     let alloc = rt.alloc();
     let text = b"at,event,process,op,data\n7,end,1,view,\n2,begin,1,view,\n";
     let left = history(alloc, "begin,1,view,\nend,1,view,\n")?;
-    same(answered(&rt, alloc, Question::Witness, text)?, ("atomic", left))
+    same(
+        answered(&rt, alloc, Question::Witness, text)?,
+        ("atomic", left),
+    )
 }
 
 #[test]
@@ -98,5 +101,8 @@ fn a_text_that_is_no_history_gets_its_line(rt: HostRuntime) -> Result<(), Fail> 
     let alloc = rt.alloc();
     let text = history(alloc, "begin,0,view,\nbegin,0,view,\n")?;
     let line = String::from_str(alloc, "refused record 3: busy\n")?;
-    same(answered(&rt, alloc, Question::Witness, text.as_bytes())?, ("refused", line))
+    same(
+        answered(&rt, alloc, Question::Witness, text.as_bytes())?,
+        ("refused", line),
+    )
 }

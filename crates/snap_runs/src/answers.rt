@@ -7,10 +7,10 @@ use crate::draw_witness::witness_drawn;
 use crate::explain::explained;
 use crate::map::mapped;
 use crate::markup::{Explained, Lines, Page, Svg};
+use crate::object::{object_of, refused_object};
 use crate::question::Question;
 use crate::shrink::shrunk;
 use crate::stats::counted;
-use crate::object::{object_of, refused_object};
 use crate::test_case::{judged_case, refused_case};
 use snap_check::{Judging, Status};
 use snap_core::{History, Limit};
@@ -87,9 +87,10 @@ pub(crate) fn refusal_of(
         Question::Object(named) => refused_object(alloc, named.name, place, fault),
         Question::TestCase(named) => refused_case(alloc, named.name, text, place, fault, limit),
         Question::Counts(Some(name)) => refused_object(alloc, name, place, fault),
-        Question::Counts(None) | Question::Witness | Question::WitnessDrawn | Question::WitnessMap => {
-            refusal_text(alloc, place, fault)
-        }
+        Question::Counts(None)
+        | Question::Witness
+        | Question::WitnessDrawn
+        | Question::WitnessMap => { refusal_text(alloc, place, fault) }
         Question::Explanation(_)
         | Question::ExplanationDrawn(_)
         | Question::Page(_, _)

@@ -1,5 +1,5 @@
 //! The run of a question: it reads a text, and writes the answer.
-ghost use Rattle.std.specs.Prelude.{◌≡◌, IfOk, IsSome};
+ghost use Rattle.std.specs.Prelude.{IfOk, IsSome};
 ghost use Rattle.snap_core.specs.Counting.{failures_in, inner_of};
 ghost use Rattle.snap_check.specs.Runs.{JudgeCounts, JudgesBy, RunCounts, WroteBy};
 ghost use Rattle.snap_runs.specs.Answers.{IsAlwaysAnswered, IsAnswerTo};

@@ -1,5 +1,5 @@
 //! The picture of what a history is cut down to.
-ghost use Rattle.std.specs.Prelude.{◌≡◌, IfOk, length};
+ghost use Rattle.std.specs.Prelude.{IfOk, length};
 ghost use Rattle.std.specs.List.{range_with_len};
 ghost use Rattle.snap_draw.specs.Window.{usual_lines};
 ghost use Rattle.snap_explain.specs.declared.view.Entries.TheVariants.{OfFault};

@@ -1,5 +1,5 @@
 //! Recordings of rounds of workers who keep pace.
-ghost use Rattle.std.specs.Prelude.{◌≡◌, ◌<◌, ◌≤◌, IfOk};
+ghost use Rattle.std.specs.Prelude.{◌≡◌, IfOk};
 ghost use Rattle.snap_core.specs.Counting.{failures_in, inner_of};
 ghost use Rattle.snap_record.specs.Plans.{AreRounds, AreWorkers, rounds_scripts};
 ghost use Rattle.snap_runs.specs.Recordings.{IsWrittenAs, WriteCounts, WroteAs};

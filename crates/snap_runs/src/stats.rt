@@ -1,5 +1,5 @@
 //! What a history has shown, as an object with a name or as lines.
-ghost use Rattle.std.specs.Prelude.{◌≡◌, IfOk};
+ghost use Rattle.std.specs.Prelude.{IfOk};
 ghost use Rattle.std.specs.Option.{option_copied};
 ghost use Rattle.snap_runs.specs.Stats.{CountsHistory, WritesStats};
 

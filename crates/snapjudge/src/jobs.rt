@@ -56,13 +56,7 @@ pub(crate) fn done<Rt: Threads + Wait + Sync>(
             faults,
             limit,
             file,
-        } => answer(
-            rt,
-            host,
-            &file,
-            explanation(drawn, whole, faults),
-            limit,
-        ),
+        } => answer(rt, host, &file, explanation(drawn, whole, faults), limit),
         Job::Draw {
             form,
             part,

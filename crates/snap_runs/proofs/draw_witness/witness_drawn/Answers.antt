@@ -24,10 +24,10 @@ returns g c =
             drawn = subst (λ text. IsDrawing usual_lines 0 OfFault is_lines left (range_with_len 2 (length left)) w.deref.result.now text.items) (sym w.text-is) w.in_ok-text-in-Some.ensures;
           }
       | in-None+in_ok-text-in-None w ↦ record {
-          left = es;
-          cut = cut_to_itself _ _ _ w.in-None.is judged.status judged.witness;
-          numbers = [];
-          beside = inl (subst (IsNumbered es) w.in-None.is judged.witness, refl);
-          drawn = subst (λ text. IsDrawing usual_lines 0 OfFault is_lines es (range_with_len 2 (length es)) [] text.items) (sym w.text-is) w.in_ok-text-in-None.ensures;
-        }
+        left = es;
+        cut = cut_to_itself _ _ _ w.in-None.is judged.status judged.witness;
+        numbers = [];
+        beside = inl (subst (IsNumbered es) w.in-None.is judged.witness, refl);
+        drawn = subst (λ text. IsDrawing usual_lines 0 OfFault is_lines es (range_with_len 2 (length es)) [] text.items) (sym w.text-is) w.in_ok-text-in-None.ensures;
+      }
     ]

@@ -1,4 +1,4 @@
-use Rattle.std.proofs.Common.{◌≤◌, ◌≡◌, ◌∙◌, ℕ, List, inr, ap, arith, length, subst}
+use Rattle.std.proofs.Common.{◌≤◌, ◌∙◌, ℕ, List, inr, ap, arith, length, subst}
 use Rattle.std.proofs.lemmas.Result.{IfOk-weaker}
 use Rattle.std.specs.Prelude.{IfOk}
 use Rattle.snap_check.specs.declared.status.Status.TheVariants.{Refused}

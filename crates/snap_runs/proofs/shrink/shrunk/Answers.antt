@@ -8,13 +8,13 @@ returns g c =
     let judged = c.in_ok-status.ensures in
     elim c.match-found.branch [
       | in-Some+in_ok-text-in-Some w ↦ record {
-          left = w.in-Some.left.events;
-          cut = cut_to_witness _ _ _ _ w.in-Some.is judged.status judged.witness;
-          writes = ap vec_items w.text-is ∙ w.in_ok-text-in-Some.ensures;
-        }
+        left = w.in-Some.left.events;
+        cut = cut_to_witness _ _ _ _ w.in-Some.is judged.status judged.witness;
+        writes = ap vec_items w.text-is ∙ w.in_ok-text-in-Some.ensures;
+      }
       | in-None+in_ok-text-in-None w ↦ record {
-          left = c.args.history.now.events;
-          cut = cut_to_itself _ _ _ w.in-None.is judged.status judged.witness;
-          writes = ap vec_items w.text-is ∙ w.in_ok-text-in-None.ensures;
-        }
+        left = c.args.history.now.events;
+        cut = cut_to_itself _ _ _ w.in-None.is judged.status judged.witness;
+        writes = ap vec_items w.text-is ∙ w.in_ok-text-in-None.ensures;
+      }
     ]
