@@ -135,9 +135,9 @@ def name_of(edit):
     return os.path.basename(edit).removesuffix(".edit")
 
 
-def write_crate(room, names):
-    """Writes the crate with these edits, and returns it, and the edits' files."""
-    texts = FILES | {f"crates/few/must-fail/{it}.edit": "file: src/{}.rt\nold: {}\nnew: {}\n".format(*EDITS[it][1:]) for it in names}
+def write_crate(room, names, others={}):
+    """Writes the crate with these edits, and other files. Returns the crate, and the edits' files."""
+    texts = FILES | others | {f"crates/few/must-fail/{it}.edit": "file: src/{}.rt\nold: {}\nnew: {}\n".format(*EDITS[it][1:]) for it in names}
     for file, text in texts.items():
         os.makedirs(os.path.dirname(f"{room}/{file}"), exist_ok=True)
         with open(f"{room}/{file}", "w", encoding="utf-8") as out:
@@ -236,14 +236,10 @@ def unread():
 
 def unbegun():
     """What is wrong with what is said of a wrong body that compiles, if its check cannot begin, as a crate below is not built."""
+    below = {"crates.txt": "low:\nfew: low\n", "crates/low/src/lib.rt": "//! Nothing.\n"}
     with tempfile.TemporaryDirectory() as room:
-        write_crate(room, ["lib.next.no-step"])
-        os.makedirs(f"{room}/crates/low/src")
-        for file, text in [("crates.txt", "low:\nfew: low\n"), ("crates/low/src/lib.rt", "//! Nothing.\n")]:
-            with open(f"{room}/{file}", "w", encoding="utf-8") as out:
-                out.write(text)
-        crate = rt.Crate(f"{room}/crates/few", room, {})
-        found = list(map(name_of, wrong_bodies.uncompiled(crate, rt.edits_of(crate)[0])))
+        crate, edits = write_crate(room, ["lib.next.no-step"], below)
+        found = list(map(name_of, wrong_bodies.uncompiled(crate, edits)))
     return [] if found == ["lib.next.no-step"] else [f"these do not compile where nothing can be checked: {found}"]
 
 
