@@ -14,11 +14,10 @@ use Rattle.snap_draw.specs.Calls.{drawn_call}
 use Rattle.snap_draw.specs.Marks.{marks_of}
 use Rattle.snap_draw.specs.Pieces.{AreEach, held_calls, pieces_of}
 use Rattle.snap_draw.specs.Timelines.{AreShapes, calls_drawn}
-use Rattle.snap_explain.specs.declared.view.Entries.{Entries}
-use Rattle.snap_explain.specs.Explanations.{IsExplanation}
+use Rattle.snap_runs.specs.declared.markup.Said.{Said}
 use Rattle.snap_theory.specs.Levels.{printed_order}
 use Rattle.snap_report.specs.Reports.{has_no_fault}
-use Rattle.snap_runs.specs.Drawing.{ArePartsOf, AreShapesOf, IsDrawing, Writes, order_drawn}
+use Rattle.snap_runs.specs.Drawing.{ArePartsOf, AreShapesOf, IsDrawing, IsSaid, Writes, order_drawn}
 
 pub order_is : (calls : List Call) (t : Tally) (order : Option (Bor (List ℕ))) → is_some order ≡ has_no_fault t → ForSome order (λ numbers. numbers.now ≡ map (λ (c : Call). c.number) (printed_order calls)) →
     option_map_or (λ (numbers : Bor (List ℕ)). numbers.now) order [] ≡ order_drawn calls t
@@ -28,11 +27,11 @@ order_is calls t (Some numbers) given printed = printed numbers refl ∙ ap (λ 
 abbrev whole : List Event → Tally
 whole es = tally_of (calls_of es) (views_of (calls_of es))
 
-pub drawing : {E : Type 0} (window given : Window) (most kept : ℕ) (listed : Entries) (Is : Writes) (es : List Event) (records sources : List ℕ) (t : Tally) (order : List ℕ) (shapes : Shapes) (parts made : List Shapes) (said : List ℕ) (result : Result (Vec ℕ) E) → given ≡ window → kept ≡ most → t ≡ whole es → order ≡ order_drawn (calls_of es) t →
+pub drawing : {E : Type 0} (window given : Window) (most kept : ℕ) (says : Said) (Is : Writes) (es : List Event) (records sources : List ℕ) (t : Tally) (order : List ℕ) (shapes : Shapes) (parts made : List Shapes) (said : List ℕ) (result : Result (Vec ℕ) E) → given ≡ window → kept ≡ most → t ≡ whole es → order ≡ order_drawn (calls_of es) t →
     AreShapes order (marks_of (calls_of es) t) (calls_drawn given (calls_of es) t) shapes → parts ≡ made →
     AreEach order (marks_of (calls_of es) t) (pieces_of given.calls (held_calls kept given (marks_of (calls_of es) t) (map drawn_call (calls_of es)))) made →
-    IsExplanation listed records (calls_of es) said → IfOk result (λ out. Is es records sources shapes parts order said out.items) → IfOk result (λ out. IsDrawing window most listed Is es records sources out.items)
-drawing window given most kept listed Is es records sources t order shapes parts made said result same held tally printed are passed each explained written =
+    IsSaid says records (calls_of es) said → IfOk result (λ out. Is es records sources shapes parts order said out.items) → IfOk result (λ out. IsDrawing window most says Is es records sources out.items)
+drawing window given most kept says Is es records sources t order shapes parts made said result same held tally printed are passed each explained written =
     let order_are : order ≡ order_drawn (calls_of es) (whole es) = printed ∙ ap (order_drawn (calls_of es)) tally in
     let shapes_are : AreShapesOf window (calls_of es) (whole es) shapes =
     subst (λ os. AreShapes os (marks_of (calls_of es) (whole es)) (calls_drawn window (calls_of es) (whole es)) shapes) order_are

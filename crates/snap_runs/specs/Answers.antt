@@ -10,7 +10,6 @@ use Rattle.snap_check.specs.declared.status.Status.TheVariants.{Refused}
 use Rattle.snap_draw.specs.declared.window.Place.TheVariants.{Faults}
 use Rattle.snap_draw.specs.Window.{usual_lines}
 use Rattle.snap_explain.specs.Refusals.{IsRefusalExplanation}
-use Rattle.snap_explain.specs.declared.view.Entries.TheVariants.{OfFault}
 use Rattle.snap_json.specs.Objects.{refusal_json}
 use Rattle.snap_json.specs.Values.{IsLineOf}
 use Rattle.snap_options.specs.declared.limits.TheConstants.{MOST_CALLS}
@@ -18,6 +17,7 @@ use Rattle.snap_report.specs.Lines.{line_text}
 use Rattle.snap_report.specs.Refusals.{refusal_line}
 use Rattle.snap_runs.specs.declared.question.Question.{Question}
 use Rattle.snap_runs.specs.declared.question.Question.TheVariants.{Explanation, ExplanationDrawn, Object, TestCase, Witness, WitnessDrawn, WitnessMap, Page, Svg, Lines, Counts}
+use Rattle.snap_runs.specs.declared.markup.Said.TheVariants.{Sentences, Whole}
 use Rattle.snap_runs.specs.Drawing.{AnswersHistory}
 use Rattle.snap_runs.specs.Explaining.{ExplainsHistory}
 use Rattle.snap_runs.specs.Mapping.{MapsHistory}
@@ -36,15 +36,15 @@ IsCertain Is None out = ⊥
 -- the status of a history and what is written of it, by the records of its events
 abbrev pub IsAnswerOf : Question → List Event → List ℕ → Option Status → List ℕ → Type 0
 IsAnswerOf (Explanation detail) events records = IsCertain (ExplainsHistory detail events records)
-IsAnswerOf (ExplanationDrawn listed) events records = AnswersHistory usual_lines 0 listed is_lines events records
+IsAnswerOf (ExplanationDrawn listed) events records = AnswersHistory usual_lines 0 (Whole listed) is_lines events records
 IsAnswerOf (Object named) events records = IsCertain (TellsHistory (object_name named.name.now) named.views events records)
 IsAnswerOf (TestCase named) events records = IsHistoryCase named.name.now named.views events records
 IsAnswerOf Witness events records = IsCertain (ShrinksHistory events)
 IsAnswerOf WitnessDrawn events records = IsCertain (DrawsWitness events)
 IsAnswerOf WitnessMap events records = IsCertain (MapsHistory events records)
-IsAnswerOf (Page scheme window) events records = AnswersHistory window MOST_CALLS OfFault is_page events records
-IsAnswerOf (Svg scheme window) events records = AnswersHistory window 0 OfFault is_svg events records
-IsAnswerOf (Lines window) events records = AnswersHistory window 0 OfFault is_lines events records
+IsAnswerOf (Page scheme window) events records = AnswersHistory window MOST_CALLS Sentences is_page events records
+IsAnswerOf (Svg scheme window) events records = AnswersHistory window 0 Sentences is_svg events records
+IsAnswerOf (Lines window) events records = AnswersHistory window 0 Sentences is_lines events records
 IsAnswerOf (Counts None) events records = IsCertain (CountsHistory None events)
 IsAnswerOf (Counts (Some name)) events records = IsCertain (CountsHistory (Some name.now) events)
 

@@ -11,10 +11,12 @@ use Rattle.snap_draw.specs.Marks.{marks_of}
 use Rattle.snap_draw.specs.Pieces.{AreEach, held_calls, pieces_of}
 use Rattle.snap_draw.specs.Timelines.{AreShapes, calls_drawn}
 use Rattle.snap_draw.specs.Window.{has_call}
-use Rattle.snap_explain.specs.declared.view.Entries.{Entries}
-use Rattle.snap_explain.specs.Explanations.{IsExplanation}
+use Rattle.snap_explain.specs.declared.view.Entries.TheVariants.{OfFault}
+use Rattle.snap_explain.specs.Explanations.{IsExplanation, explanation, order_text}
 use Rattle.snap_theory.specs.Levels.{printed_order}
 use Rattle.snap_report.specs.Reports.{has_no_fault}
+use Rattle.snap_runs.specs.declared.markup.Said.{Said}
+use Rattle.snap_runs.specs.declared.markup.Said.TheVariants.{Sentences, Whole}
 use Rattle.snap_check.specs.declared.status.Status.{Status}
 use Rattle.snap_check.specs.Verdicts.{HasStatus}
 
@@ -37,24 +39,32 @@ abbrev pub ArePartsOf : ℕ → Window → List Call → Tally → List Shapes �
 ArePartsOf held window calls t =
     AreEach (order_drawn calls t) (marks_of calls t) (pieces_of window.calls (held_calls held window (marks_of calls t) (map drawn_call calls)))
 
--- the text is what the markup writes of the shapes of the history, its pieces, its order and its explanation, which lists these entries.
--- The records are those of its events, and the sources the numbers of its calls in a run that it is made from
-pub record IsDrawing (window : Window) (held : ℕ) (listed : Entries) (Is : Writes) (events : List Event) (records sources out : List ℕ) : Type 0 where
+-- the verdict and the faults of an explanation: of an atomic history its first line alone, which has no call of the order
+abbrev pub sentences : List ℕ → List Call → Tally → List ℕ
+sentences records calls t = if has_no_fault t then order_text records [] else explanation OfFault records calls t
+
+-- what a picture has of the explanation of the history of these calls
+abbrev pub IsSaid : Said → List ℕ → List Call → List ℕ → Type 0
+IsSaid (Whole listed) records calls said = IsExplanation listed records calls said
+IsSaid Sentences records calls said = said ≡ sentences records calls (tally_of calls (views_of calls))
+
+-- the text is what the markup writes of the shapes of the history, its pieces, its order, and what it has of the explanation. The records are those of its events, and the sources the numbers of its calls in a run that it is made from
+pub record IsDrawing (window : Window) (held : ℕ) (says : Said) (Is : Writes) (events : List Event) (records sources out : List ℕ) : Type 0 where
   pub shapes : Shapes
   pub parts : List Shapes
   pub said : List ℕ
   pub are_shapes : AreShapesOf window (calls_of events) (tally_of (calls_of events) (views_of (calls_of events))) shapes
   pub are_parts : ArePartsOf held window (calls_of events) (tally_of (calls_of events) (views_of (calls_of events))) parts
-  pub explained : IsExplanation listed records (calls_of events) said
+  pub explained : IsSaid says records (calls_of events) said
   pub written : Is events records sources shapes parts (order_drawn (calls_of events) (tally_of (calls_of events) (views_of (calls_of events)))) said out
 
 -- the status of a history, and its picture by the records of its events and the numbers of its calls in a run
-abbrev pub DrawsHistory : Window → ℕ → Entries → Writes → List Event → List ℕ → List ℕ → Status → List ℕ → Type 0
-DrawsHistory window held listed Is events records sources status out = HasStatus events status × IsDrawing window held listed Is events records sources out
+abbrev pub DrawsHistory : Window → ℕ → Said → Writes → List Event → List ℕ → List ℕ → Status → List ℕ → Type 0
+DrawsHistory window held says Is events records sources status out = HasStatus events status × IsDrawing window held says Is events records sources out
 
 -- The answer to a history with the call that the window names, and its picture. Without that call there is no status and no picture. The
 -- history is made from no run.
-abbrev pub AnswersHistory : Window → ℕ → Entries → Writes → List Event → List ℕ → Option Status → List ℕ → Type 0
-AnswersHistory window held listed Is events records (Some status) out =
-    (has_call window.place (length (calls_of events)) ≡ true) × DrawsHistory window held listed Is events records [] status out
-AnswersHistory window held listed Is events records None out = (has_call window.place (length (calls_of events)) ≡ false) × (out ≡ [])
+abbrev pub AnswersHistory : Window → ℕ → Said → Writes → List Event → List ℕ → Option Status → List ℕ → Type 0
+AnswersHistory window held says Is events records (Some status) out =
+    (has_call window.place (length (calls_of events)) ≡ true) × DrawsHistory window held says Is events records [] status out
+AnswersHistory window held says Is events records None out = (has_call window.place (length (calls_of events)) ≡ false) × (out ≡ [])

@@ -3,11 +3,11 @@ use Rattle.std.specs.Prelude.{ℕ, List, length}
 use Rattle.std.specs.List.{range_with_len}
 use Rattle.snap_core.specs.declared.event.Event.{Event}
 use Rattle.snap_draw.specs.Window.{usual_lines}
-use Rattle.snap_explain.specs.declared.view.Entries.TheVariants.{OfFault}
 use Rattle.snap_runs.specs.Cutting.{AreBeside}
 use Rattle.snap_runs.specs.Drawing.{IsDrawing}
 use Rattle.snap_runs.specs.Markups.{is_lines}
 use Rattle.snap_runs.specs.Shrinking.{IsCutTo}
+use Rattle.snap_runs.specs.declared.markup.Said.TheVariants.{Sentences}
 use Rattle.snap_check.specs.declared.status.Status.{Status}
 
 -- The status of a history, and the picture of what it is cut down to: its witness, or itself if it is atomic. The picture is lines of
@@ -17,4 +17,4 @@ pub record DrawsWitness (events : List Event) (status : Status) (out : List ℕ)
   pub cut : IsCutTo events status left
   pub numbers : List ℕ
   pub beside : AreBeside events left numbers
-  pub drawn : IsDrawing usual_lines 0 OfFault is_lines left (range_with_len 2 (length left)) numbers out
+  pub drawn : IsDrawing usual_lines 0 Sentences is_lines left (range_with_len 2 (length left)) numbers out

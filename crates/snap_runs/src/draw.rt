@@ -5,15 +5,15 @@ ghost use Rattle.snap_core.specs.Calls.{calls_of, views_of};
 ghost use Rattle.snap_conditions.specs.Tally.{tally_of};
 ghost use Rattle.snap_theory.specs.Levels.{printed_order};
 ghost use Rattle.snap_report.specs.Reports.{has_no_fault};
-ghost use Rattle.snap_runs.specs.Drawing.{AnswersHistory, DrawsHistory, IsDrawing};
+ghost use Rattle.snap_runs.specs.Drawing.{AnswersHistory, DrawsHistory, IsDrawing, IsSaid};
 ghost use Rattle.snap_draw.specs.declared.window.Place.TheVariants.{Faults};
 
-use crate::markup::Markup;
+use crate::markup::{Markup, Said};
 use snap_check::{Judging, Status, status_of};
 use snap_conditions::Tally;
 use snap_core::History;
 use snap_draw::{Numbering, Picture, has_call, parts_of, shapes_of};
-use snap_explain::explain;
+use snap_explain::{Entries, explain};
 use snap_index::Index;
 use std::alloc::{AllocError, Global};
 
@@ -24,6 +24,35 @@ fn numbers_of<'x>(order: Option<&'x [u32]>) -> &'x [u32]
     match order {
         Some(numbers) => numbers,
         None => &[],
+    }
+}
+
+// The first line of the explanation of an atomic history.
+const ATOMIC: &[u8] = b"atomic: in this order each view shows the latest updates before it\n";
+
+// What a picture has of the explanation of a history. The numbers of the printed order are given exactly if the tally has no fault.
+fn said_of(
+    alloc: Global,
+    index: &Index<'_>,
+    tally: &Tally,
+    records: &[u32],
+    order: Option<&[u32]>,
+    said: Said,
+) -> Result<Vec<u8>, AllocError>
+    requires tally { tally.now ≡ tally_of (calls_of index.now) (views_of (calls_of index.now)) }
+    requires each { length records.now ≡ length index.now }
+    requires given { is_some order ≡ has_no_fault tally.now }
+    requires order { ForSome order (λ numbers. numbers.now ≡ map (λ c. c.number) (printed_order (calls_of index.now))) }
+    ensures { IfOk result (λ text. IsSaid said records.now (calls_of index.now) text.items) }
+{
+    match said {
+        Said::Whole(listed) => explain(alloc, index, tally, records, order, listed),
+        Said::Sentences => {
+            match order {
+                Some(_) => Vec::from_slice(alloc, ATOMIC),
+                None => explain(alloc, index, tally, records, order, Entries::OfFault),
+            }
+        }
     }
 }
 
@@ -41,10 +70,10 @@ fn picture_of<'x, M: Markup>(
     requires each { length numbering.records.now ≡ length index.now }
     requires given { is_some order ≡ has_no_fault tally.now }
     requires order { ForSome order (λ numbers. numbers.now ≡ map (λ c. c.number) (printed_order (calls_of index.now))) }
-    ensures { IfOk result (λ text. IsDrawing (M.draws markup.now) M.holds (M.entries markup.now) M.writes index.now numbering.entry.records.now numbering.entry.sources.now text.items) }
+    ensures { IfOk result (λ text. IsDrawing (M.draws markup.now) M.holds (M.says markup.now) M.writes index.now numbering.entry.records.now numbering.entry.sources.now text.items) }
 {
     let records = numbering.records;
-    let said = explain(alloc, index, tally, records, order, markup.listed())?;
+    let said = said_of(alloc, index, tally, records, order, markup.said())?;
     let order = numbers_of(order);
     let window = markup.part();
     let shapes = shapes_of(alloc, index, tally, order, window)?;
@@ -73,7 +102,7 @@ fn drawn_by<J: Judging, M: Markup>(
 ) -> Result<(Status, Vec<u8>), AllocError>
     requires ready { J.ready }
     requires each { length numbering.records.now ≡ length index.now }
-    ensures { IfOk result (λ answer. DrawsHistory (M.draws markup.now) M.holds (M.entries markup.now) M.writes index.now numbering.entry.records.now numbering.entry.sources.now answer.0 answer.1.items) }
+    ensures { IfOk result (λ answer. DrawsHistory (M.draws markup.now) M.holds (M.says markup.now) M.writes index.now numbering.entry.records.now numbering.entry.sources.now answer.0 answer.1.items) }
 {
     let (tally, chain) = judging.tally_and_chain(alloc, index, bytes)?;
     let order = judging.order(alloc, index, &tally, chain, bytes)?;
@@ -92,7 +121,7 @@ pub(crate) fn drawn<J: Judging, M: Markup>(
 ) -> Result<(Status, Vec<u8>), AllocError>
     requires ready { J.ready }
     requires each { length numbering.records.now ≡ length history.now.events }
-    ensures { IfOk result (λ answer. DrawsHistory (M.draws markup.now) M.holds (M.entries markup.now) M.writes history.now.events numbering.entry.records.now numbering.entry.sources.now answer.0 answer.1.items) }
+    ensures { IfOk result (λ answer. DrawsHistory (M.draws markup.now) M.holds (M.says markup.now) M.writes history.now.events numbering.entry.records.now numbering.entry.sources.now answer.0 answer.1.items) }
 {
     let index = Index::build(alloc, history)?;
     drawn_by(judging, alloc, markup, &index, numbering, bytes)
@@ -110,7 +139,7 @@ pub(crate) fn answered<J: Judging, M: Markup>(
 ) -> Result<(Option<Status>, Vec<u8>), AllocError>
     requires ready { J.ready }
     requires each { length records.now ≡ length history.now.events }
-    ensures answer { IfOk result (λ answer. AnswersHistory (M.draws markup.now) M.holds (M.entries markup.now) M.writes history.now.events records.now answer.0 answer.1.items) }
+    ensures answer { IfOk result (λ answer. AnswersHistory (M.draws markup.now) M.holds (M.says markup.now) M.writes history.now.events records.now answer.0 answer.1.items) }
     ensures given { (M.draws markup.now).place ≡ Faults → IfOk result (λ answer. IsSome answer.0) }
 {
     let index = Index::build(alloc, history)?;

@@ -2,9 +2,9 @@
 ghost use Rattle.std.specs.Prelude.{IfOk, length};
 ghost use Rattle.std.specs.List.{range_with_len};
 ghost use Rattle.snap_draw.specs.Window.{usual_lines};
-ghost use Rattle.snap_explain.specs.declared.view.Entries.TheVariants.{OfFault};
 ghost use Rattle.snap_runs.specs.Drawing.{IsDrawing};
 ghost use Rattle.snap_runs.specs.Markups.{is_lines};
+ghost use Rattle.snap_runs.specs.declared.markup.Said.TheVariants.{Sentences};
 ghost use Rattle.snap_runs.specs.WitnessDrawing.{DrawsWitness};
 
 use crate::cut::{judged_witness, records_of};
@@ -25,7 +25,7 @@ fn picture_of<J: Judging>(
     bytes: usize,
 ) -> Result<Vec<u8>, AllocError>
     requires ready { J.ready }
-    ensures { IfOk result (λ text. IsDrawing usual_lines 0 OfFault is_lines history.now.events (range_with_len 2 (length history.now.events)) sources.now text.items) }
+    ensures { IfOk result (λ text. IsDrawing usual_lines 0 Sentences is_lines history.now.events (range_with_len 2 (length history.now.events)) sources.now text.items) }
 {
     let records = records_of(alloc, history.len())?;
     let numbering = Numbering {

@@ -5,14 +5,23 @@ ghost use Rattle.snap_draw.specs.declared.shapes.Shapes.{Shapes};
 ghost use Rattle.snap_draw.specs.declared.window.Window.{Window};
 ghost use Rattle.snap_draw.specs.Window.{usual_lines};
 ghost use Rattle.snap_options.specs.declared.limits.TheConstants.{MOST_CALLS};
-ghost use Rattle.snap_explain.specs.declared.view.Entries.{Entries};
-ghost use Rattle.snap_explain.specs.declared.view.Entries.TheVariants.{OfFault};
 ghost use Rattle.snap_runs.specs.Markups.{is_lines, is_page, is_svg};
+ghost use Rattle.snap_runs.specs.declared.markup.Said.{Said};
+ghost use Rattle.snap_runs.specs.declared.markup.Said.TheVariants.{Sentences, Whole};
 
 use snap_draw::{Picture, Window, explained_lines, page_of, svg_of, text_lines};
 use snap_explain::Entries;
 use snap_options::{MOST_CALLS, Scheme};
 use std::alloc::{AllocError, Global};
+
+/// What a picture has of the explanation of a history.
+#[derive(Clone, Copy)]
+pub(crate) enum Said {
+    /// All of it, which lists these entries of the views of a fault.
+    Whole(Entries),
+    /// The verdict and the faults: of an atomic history the first line alone, without the calls of its order.
+    Sentences,
+}
 
 /// A way to write a picture as text.
 pub(crate) trait Markup {
@@ -22,8 +31,8 @@ pub(crate) trait Markup {
     // the most calls of a longer history that it holds in pieces
     ghost holds: { ℕ };
 
-    // which entries of the views of a fault its explanation lists
-    ghost entries: { Self → Entries };
+    // what it has of the explanation
+    ghost says: { Self → Said };
 
     // what it may write of the events of a history, their records, the numbers of its calls in a run, its shapes, those of its pieces,
     // the numbers of its printed order, and its explanation
@@ -37,9 +46,9 @@ pub(crate) trait Markup {
     fn held(&self) -> usize
         ensures { result ≡ holds };
 
-    /// Which entries of the views of a fault its explanation lists.
-    fn listed(&self) -> Entries
-        ensures { result ≡ entries self.now };
+    /// What it has of the explanation.
+    fn said(&self) -> Said
+        ensures { result ≡ says self.now };
 
     /// The text of a picture. The error is want of memory.
     fn text(&self, alloc: Global, picture: &Picture<'_, '_>) -> Result<Vec<u8>, AllocError>
@@ -80,7 +89,7 @@ impl Markup for Svg {
 
     ghost holds = { 0 };
 
-    ghost entries = { λ _. OfFault };
+    ghost says = { λ _. Sentences };
 
     ghost writes = { is_svg };
 
@@ -92,8 +101,8 @@ impl Markup for Svg {
         0
     }
 
-    fn listed(&self) -> Entries {
-        Entries::OfFault
+    fn said(&self) -> Said {
+        Said::Sentences
     }
 
     fn text(&self, alloc: Global, picture: &Picture<'_, '_>) -> Result<Vec<u8>, AllocError> {
@@ -106,7 +115,7 @@ impl Markup for Page {
 
     ghost holds = { MOST_CALLS };
 
-    ghost entries = { λ _. OfFault };
+    ghost says = { λ _. Sentences };
 
     ghost writes = { is_page };
 
@@ -118,8 +127,8 @@ impl Markup for Page {
         MOST_CALLS as usize
     }
 
-    fn listed(&self) -> Entries {
-        Entries::OfFault
+    fn said(&self) -> Said {
+        Said::Sentences
     }
 
     fn text(&self, alloc: Global, picture: &Picture<'_, '_>) -> Result<Vec<u8>, AllocError> {
@@ -132,7 +141,7 @@ impl Markup for Lines {
 
     ghost holds = { 0 };
 
-    ghost entries = { λ _. OfFault };
+    ghost says = { λ _. Sentences };
 
     ghost writes = { is_lines };
 
@@ -144,8 +153,8 @@ impl Markup for Lines {
         0
     }
 
-    fn listed(&self) -> Entries {
-        Entries::OfFault
+    fn said(&self) -> Said {
+        Said::Sentences
     }
 
     fn text(&self, alloc: Global, picture: &Picture<'_, '_>) -> Result<Vec<u8>, AllocError> {
@@ -158,7 +167,7 @@ impl Markup for Explained {
 
     ghost holds = { 0 };
 
-    ghost entries = { λ markup. markup.listed };
+    ghost says = { λ markup. Whole markup.listed };
 
     ghost writes = { is_lines };
 
@@ -170,8 +179,8 @@ impl Markup for Explained {
         0
     }
 
-    fn listed(&self) -> Entries {
-        self.listed
+    fn said(&self) -> Said {
+        Said::Whole(self.listed)
     }
 
     fn text(&self, alloc: Global, picture: &Picture<'_, '_>) -> Result<Vec<u8>, AllocError> {

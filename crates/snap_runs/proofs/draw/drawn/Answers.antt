@@ -4,4 +4,4 @@ use Rattle.snap_runs.proofs.draw.drawn.Goals as goal
 
 pub returns : goal.returns
 returns g c =
-    subst (λ es. IfOk c.drawn_by.result (λ answer. DrawsHistory (g.M.Markup.draws c.args.markup.now) g.M.Markup.holds (g.M.Markup.entries c.args.markup.now) g.M.Markup.writes es c.args.numbering.records.now c.args.numbering.sources.now answer.0 answer.1.items)) c.in_ok-index.ensures c.drawn_by.ensures
+    subst (λ es. IfOk c.drawn_by.result (λ answer. DrawsHistory (g.M.Markup.draws c.args.markup.now) g.M.Markup.holds (g.M.Markup.says c.args.markup.now) g.M.Markup.writes es c.args.numbering.records.now c.args.numbering.sources.now answer.0 answer.1.items)) c.in_ok-index.ensures c.drawn_by.ensures
