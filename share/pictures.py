@@ -42,8 +42,14 @@ def faults_of(report, calls):
     faults, order = {}, []
 
     def update(component, number):
-        found = updates.get((component, str(number)))
+        found = updates.get((str(component), str(number)))
         return {found} if found else set()
+
+    def excess(more, less):
+        """The update that one view shows of the least component of which it shows more than another."""
+        shown = {at: {int(k): int(n) for k, n, _ in (it.split(":") for it in calls[at].data.split())} for at in (more, less)}
+        component = min((k for k, n in shown[more].items() if n > shown[less].get(k, 0)), default=None)
+        return set() if component is None else update(component, shown[more][component])
 
     for line in report.splitlines():
         words = line.split()
@@ -54,7 +60,9 @@ def faults_of(report, calls):
             number = int(numbers[3]) + (words[-1] == "old")
             faults["proximity"] = {int(numbers[1])} | update(numbers[2], number)
         elif words[0] == "read":
-            faults["read"] = {int(numbers[1]), int(numbers[2])}
+            one, other = int(numbers[1]), int(numbers[2])
+            is_after = calls[one].end < calls[other].begin
+            faults["read"] = {one, other} | excess(one, other) | (set() if is_after else excess(other, one))
         elif words[0] == "write":
             faults["write"] = {int(numbers[1])} | update(*numbers[2:4]) | update(*numbers[4:6])
         elif words[0].isdigit():
@@ -66,16 +74,7 @@ def kept_of(report, calls):
     """The numbers of the calls that a witness keeps: those of the first fault that a report has, and the updates that show it."""
     faults, _ = faults_of(report, calls)
     kind = next((it for it in ("integrity", "proximity", "read", "write") if it in faults), None)
-    kept = set(faults.get(kind, ()))
-    if kind == "read":
-        one, other = map(int, re.search(r"^read \d+ first view (\d+) view (\d+)", report, re.MULTILINE).groups())
-        shown = {at: {int(k): int(n) for k, n, _ in (it.split(":") for it in calls[at].data.split())} for at in (one, other)}
-        entries = {tuple(map(int, call.data.split(":")[:2])): at for at, call in calls.items() if call.kind == "update"}
-        pairs = [(one, other)] + [(other, one)] * (not calls[one].end < calls[other].begin)
-        for more, less in pairs:
-            component = min((k for k, n in shown[more].items() if n > shown[less].get(k, 0)), default=None)
-            kept |= {entries[component, shown[more][component]]} if component is not None else set()
-    return sorted(kept)
+    return sorted(faults.get(kind, ()))
 
 
 class Box:

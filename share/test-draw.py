@@ -440,10 +440,10 @@ def try_longest(count, program):
     try_pieces(count, "the longest history", page, calls_of(text))
     marked = {it for it in picture.ids("call-") if "fault-read" in picture.classes(f"call-{it}")}
     count.same(status, 1, "the longest history: status")
-    count.same(marked, {"2", str(last)}, "the longest history: calls of the fault")
+    count.same(marked, {"1", "2", str(last)}, "the longest history: calls of the fault")
     count.expect(len(picture.ids("call-")) <= MOST_CALLS, f"the longest history: {len(picture.ids('call-'))} calls are drawn")
     drawn = [bar.label.split()[0] for bar in lines.bars]
-    count.expect(len(drawn) <= MOST_IN_LINES and {"2", str(last)} <= set(drawn), f"the longest history: by lines {drawn} are drawn")
+    count.expect(len(drawn) <= MOST_IN_LINES and {"1", "2", str(last)} <= set(drawn), f"the longest history: by lines {drawn} are drawn")
     count.same(lines.left_out, (len(drawn), last - len(drawn)), "the longest history: calls that the lines leave out")
     count.expect(len(page.encode()) <= MOST_BYTES, f"the longest history: its page has {len(page.encode())} bytes")
 

@@ -233,6 +233,25 @@ def try_api(count):
     count.expect(True, "")
 
 
+def unnamed_cases(guide):
+    """The files that have a case for each kind of fault and that a guide does not name, and those that it names and that have none."""
+    files = (it for it in TOP.glob("crates/*/src/**/*.rt") if not re.search(r"crates/\w+_tests/|/snap_sweep/", str(it)))
+    have = {str(it.relative_to(TOP)) for it in files if re.search(r"\b(Kind|Fault)::Integrity\b|= integrity_part\(", it.read_text(encoding="utf-8"))}
+    return have ^ set(re.findall(r"`(crates/\S+\.rt)`", guide))
+
+
+def kinds_guide():
+    lines = (TOP / "docs/ARCHITECTURE.md").read_text(encoding="utf-8").splitlines()
+    return next(it for it in lines if it.startswith("- **A new kind of fault.**"))
+
+
+def try_kinds(count):
+    """The guide to a new kind of fault names all files of the product that have a case for each kind."""
+    for file in unnamed_cases(kinds_guide()):
+        count.expect(False, f"docs/ARCHITECTURE.md, a new kind of fault: {file} has a case for each kind and is not named, or the other way")
+    count.expect(True, "")
+
+
 def try_version(count):
     library = re.search(r"VERSION: u32 = (\d+);", (TOP / "crates/snap_c/src/version.rt").read_text(encoding="utf-8"))[1]
     for version, forms in (((TOP / "VERSION").read_text(encoding="utf-8").strip(), VERSIONED), (library, LIBRARY_VERSIONED)):
@@ -335,6 +354,7 @@ def try_tests(count):
     count.expect([it[2] for it in found] == [270, 1703] and found[0][1] == 32, f"definitions.py finds {found}")
     count.expect(definitions.minutes(found) > definitions.MINUTES, "definitions.py lets a page of 2,003 words pass")
     count.expect(list(inside.cited_in(CITING, {"look"})) == [(4, "IsKept"), (15, "IsKept")], "inside.py overlooks a clause for callers")
+    count.expect(unnamed_cases(re.sub(r"`crates/snap_json/\S+`", "", kinds_guide())) == {"crates/snap_json/src/faults.rt"}, "a file with a case for each kind is overlooked")
     count.expect(list(inside.imported_in(CITING)) == [(1, "IsKept, Other")], "inside.py overlooks an import")
 
 
@@ -348,6 +368,7 @@ def try_texts(count, pages):
     try_definitions(count)
     try_inside(count)
     try_api(count)
+    try_kinds(count)
     try_version(count)
     try_sentences(count, pages.values())
 

@@ -1,5 +1,5 @@
 -- The question that a command asks about its text, by its words.
-use Rattle.std.specs.Prelude.{ℕ, Bool, true, false, unwrap_or}
+use Rattle.std.specs.Prelude.{ℕ, Bool, true, false, List, Option, Some, None, ⊤, ◌≡◌, codes, unwrap_or}
 use Rattle.snap_explain.specs.declared.view.Entries.{Entries}
 use Rattle.snap_explain.specs.declared.view.Entries.TheVariants.{OfFault, Whole}
 use Rattle.snap_options.specs.declared.scheme.Scheme.TheVariants.{Light}
@@ -33,3 +33,13 @@ abbrev pub picture : Form → Part → Question
 picture (Page scheme) part = questions.Page scheme (window_of (Page scheme) part)
 picture (Svg scheme) part = questions.Svg (unwrap_or scheme Light) (window_of (Svg scheme) part)
 picture Lines part = questions.Lines (window_of Lines part)
+
+-- the name of the only text, - for standard input
+abbrev pub name_of : Option (List ℕ) → List ℕ
+name_of file = unwrap_or file (codes "-")
+
+-- `stats --json` of a text of this name, and `stats`
+abbrev pub AsksCounts : Bool → List ℕ → Question → Type 0
+AsksCounts true name (questions.Counts (Some asked)) = asked.now ≡ name
+AsksCounts false name (questions.Counts None) = ⊤
+AsksCounts json name _ = ⊥

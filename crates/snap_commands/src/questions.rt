@@ -1,7 +1,7 @@
 //! The question that each command asks about its text.
-ghost use Rattle.std.specs.Prelude.{◌≡◌, unwrap_or};
+ghost use Rattle.std.specs.Prelude.{◌≡◌, option_map, unwrap_or, vec_items};
 ghost use Rattle.snap_commands.specs.Pictures.{place_of as spec_place_of, usual_calls as spec_usual_calls, window_of as spec_window_of};
-ghost use Rattle.snap_commands.specs.Questions.{entries_of as spec_entries_of, explanation as spec_explanation, picture as spec_picture, witness as spec_witness};
+ghost use Rattle.snap_commands.specs.Questions.{AsksCounts, entries_of as spec_entries_of, explanation as spec_explanation, name_of as spec_name_of, picture as spec_picture, witness as spec_witness};
 ghost use Rattle.snap_runs.specs.Answers.{IsAlwaysAnswered};
 
 use snap_draw::{PAGE_CALLS, Place as At, Window};
@@ -43,6 +43,28 @@ pub fn explanation<'n>(drawn: bool, whole: bool, faults: u32) -> Question<'n>
         Question::ExplanationDrawn(listed)
     } else {
         Question::Explanation(Detail { listed, faults })
+    }
+}
+
+// The name of the only text, as an object has it: - for standard input.
+fn name_of(file: &Option<Vec<u8>>) -> &[u8]
+    ensures { result.now ≡ spec_name_of (option_map vec_items file.now) }
+{
+    match file {
+        Some(name) => name,
+        None => b"-",
+    }
+}
+
+/// The question of `stats`: an object, which has the name of the text, or lines.
+pub(crate) fn counts(file: &Option<Vec<u8>>, json: bool) -> Question<'_>
+    ensures question { AsksCounts json (spec_name_of (option_map vec_items file.now)) result }
+    ensures always { IsAlwaysAnswered result }
+{
+    if json {
+        Question::Counts(Some(name_of(file)))
+    } else {
+        Question::Counts(None)
     }
 }
 

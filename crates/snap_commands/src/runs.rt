@@ -7,7 +7,7 @@ ghost use Rattle.snap_runs.specs.Answers.{IsAlwaysAnswered};
 use crate::failure::Failure;
 use crate::files::open_only;
 use crate::outlet::Outlet;
-use crate::questions::picture;
+use crate::questions::{counts, picture};
 use snap_check::{RunFault, Status};
 use snap_core::{Counted, Limit};
 use snap_runs::{Question, Rounds, Written, record_rounds, run};
@@ -60,14 +60,6 @@ pub fn answer<Rt: Threads + Sync>(
     }
 }
 
-// The name of the only text, as an object has it.
-fn name_of(file: &Option<Vec<u8>>) -> &[u8] {
-    match file {
-        Some(name) => name,
-        None => b"-",
-    }
-}
-
 /// Counts what the history in the only text has shown, as an object or as lines. It gives the exit status.
 pub fn stats<Rt: Threads + Sync>(
     rt: &Rt,
@@ -76,12 +68,7 @@ pub fn stats<Rt: Threads + Sync>(
     json: bool,
     limit: Limit,
 ) -> Result<u8, Failure> {
-    if json {
-        let question = Question::Counts(Some(name_of(file)));
-        answer(rt, host, file, question, limit)
-    } else {
-        answer(rt, host, file, Question::Counts(None), limit)
-    }
+    answer(rt, host, file, counts(file, json), limit)
 }
 
 // Says that a history has not the call which an option names.

@@ -1,5 +1,34 @@
 //! The faults of each kind, as they are reported: by call numbers.
+ghost use Rattle.std.specs.Prelude.{◌≡◌};
+ghost use Rattle.snap_conditions.specs.Kinds.{kind_word};
+
 use snap_core::Entry;
+
+/// A kind of fault.
+#[derive(Clone, Copy, PartialEq, Eq, Debug)]
+pub enum Kind {
+    Integrity,
+    Proximity,
+    Read,
+    Write,
+}
+
+impl Kind {
+    /// All kinds, in the order of a report.
+    pub const ALL: [Kind; 4] = [Kind::Integrity, Kind::Proximity, Kind::Read, Kind::Write];
+
+    /// Its word, by which reports and all other answers name it.
+    pub fn word(self) -> &'static str
+        ensures { result.now ≡ kind_word self }
+    {
+        match self {
+            Kind::Integrity => "integrity",
+            Kind::Proximity => "proximity",
+            Kind::Read => "read",
+            Kind::Write => "write",
+        }
+    }
+}
 
 /// A view lists a component, and no update of that component has the number and the value that it shows.
 #[derive(Clone, Copy, PartialEq, Eq, Debug)]
@@ -52,4 +81,13 @@ pub struct WriteFault {
     pub shown_component: u8,
     /// The number that the view shows of that component.
     pub shown_number: u32,
+}
+
+/// A fault of some kind.
+#[derive(Clone, Copy, PartialEq, Eq, Debug)]
+pub enum Fault {
+    Integrity(IntegrityFault),
+    Proximity(ProximityFault),
+    Read(ReadFault),
+    Write(WriteFault),
 }

@@ -15,7 +15,7 @@ mod tally;
 mod updates;
 mod write;
 
-pub use fault::{IntegrityFault, ProximityFault, ReadFault, Side, WriteFault};
+pub use fault::{Fault, IntegrityFault, Kind, ProximityFault, ReadFault, Side, WriteFault};
 pub use law::{conditions_by_tally, monotone_by_tally, regular_by_tally, tallies_join};
 pub use part::Part;
 pub use range::{tally_range, tally_without_read};

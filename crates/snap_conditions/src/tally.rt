@@ -1,8 +1,9 @@
-//! Tallies: the merge of two, and the verdicts by one.
+//! Tallies: the merge of two, the first faults in one, and the verdicts by one.
 ghost use Rattle.std.specs.Prelude.{◌≡◌, ◌↔◌, IsTrue};
+ghost use Rattle.snap_conditions.specs.Kinds.{count_in, first_in};
 ghost use Rattle.snap_conditions.specs.Tally.{no_fault, merged, SumsFit, CountsNoLocalFault, CountsNoFault};
 
-use crate::fault::{IntegrityFault, ProximityFault, ReadFault, WriteFault};
+use crate::fault::{Fault, IntegrityFault, Kind, ProximityFault, ReadFault, WriteFault};
 use crate::part::Part;
 
 /// The faults of a range of views, kind by kind. `stale` is the number of pairs of a view in the range and a view that it precedes
@@ -27,6 +28,30 @@ impl Tally {
             read: Part::none(),
             write: Part::none(),
             stale: 0,
+        }
+    }
+
+    /// The number of faults of a kind.
+    pub fn count(&self, kind: Kind) -> u64
+        ensures { result ≡ count_in kind self.now }
+    {
+        match kind {
+            Kind::Integrity => self.integrity.count(),
+            Kind::Proximity => self.proximity.count(),
+            Kind::Read => self.read.count(),
+            Kind::Write => self.write.count(),
+        }
+    }
+
+    /// The first fault of a kind; none if there is no such fault.
+    pub fn first(&self, kind: Kind) -> Option<Fault>
+        ensures { result ≡ first_in kind self.now }
+    {
+        match kind {
+            Kind::Integrity => self.integrity.first().map(Fault::Integrity),
+            Kind::Proximity => self.proximity.first().map(Fault::Proximity),
+            Kind::Read => self.read.first().map(Fault::Read),
+            Kind::Write => self.write.first().map(Fault::Write),
         }
     }
 }

@@ -15,7 +15,7 @@ mod words;
 
 pub use drawn::Drawn;
 pub use lines::{explained_lines, text_lines};
-pub use marks::{Kind, Mark};
+pub use marks::Mark;
 pub use picture::{Numbering, Picture};
 pub use pieces::parts_of;
 pub use shapes::{Bar, Shapes, shapes_of};

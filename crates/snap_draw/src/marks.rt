@@ -1,25 +1,15 @@
 //! The calls of the first fault of each kind.
-ghost use Rattle.std.specs.Prelude.{◌≡◌, ◌≤◌, ◌++◌, [], IfOk, OnOk};
-ghost use Rattle.std.specs.Option.{ForSome, option_map_or};
+ghost use Rattle.std.specs.Prelude.{◌≡◌, ◌++◌, IfOk, OnOk};
+ghost use Rattle.std.specs.List.{flat_map};
 ghost use Rattle.snap_core.specs.Calls.{calls_of, views_of};
-ghost use Rattle.snap_core.specs.Events.{event_cap};
 ghost use Rattle.snap_conditions.specs.Tally.{tally_of};
-ghost use Rattle.snap_draw.specs.Marks.{integrity_marks, mark_at, marks_of, proximity_marks, read_marks, write_marks};
+ghost use Rattle.snap_draw.specs.Marks.{kind_marks, mark_at, marks_of, update_mark, view_mark};
 ghost use Rattle.snap_draw.specs.Window.{is_marked as spec_is_marked};
 
-use snap_conditions::{IntegrityFault, ProximityFault, ReadFault, Tally, WriteFault};
+use snap_conditions::{Kind, Tally};
 use snap_index::Index;
-use snap_witness::side_number;
+use snap_witness::{concerned, first_fault_of};
 use std::alloc::{AllocError, Global};
-
-/// A kind of fault.
-#[derive(Clone, Copy, PartialEq, Eq, Debug)]
-pub enum Kind {
-    Integrity,
-    Proximity,
-    Read,
-    Write,
-}
 
 /// A call of the first fault of a kind, by its number.
 #[derive(Clone, Copy, PartialEq, Eq, Debug)]
@@ -45,70 +35,52 @@ fn push_mark(marks: &mut Vec<Mark>, kind: Kind, call: Option<u32>) -> Result<(),
     Ok(())
 }
 
-fn mark_integrity(
+// Marks the views of these call numbers.
+fn mark_views(marks: &mut Vec<Mark>, kind: Kind, views: &[u32]) -> Result<(), AllocError>
+    ensures { OnOk result (marks.new.items ≡ marks.old.items ++ flat_map (view_mark kind) views.now) }
+{
+    for view in views {
+        push_mark(marks, kind, Some(*view))?;
+    }
+    Ok(())
+}
+
+// Marks the updates of these components and numbers, as far as there are such updates.
+fn mark_updates(
     marks: &mut Vec<Mark>,
     index: &Index<'_>,
-    first: Option<IntegrityFault>,
+    kind: Kind,
+    updates: &[(u8, u32)],
 ) -> Result<(), AllocError>
-    ensures { OnOk result (marks.new.items ≡ marks.old.items ++ option_map_or (integrity_marks (calls_of index.now)) first []) }
+    ensures { OnOk result (marks.new.items ≡ marks.old.items ++ flat_map (update_mark kind (calls_of index.now)) updates.now) }
 {
-    let Some(fault) = first else {
-        return Ok(());
-    };
-    push_mark(marks, Kind::Integrity, Some(fault.view))?;
-    let update = index.update_call(fault.entry.component, fault.entry.number);
-    push_mark(marks, Kind::Integrity, update)
+    for update in updates {
+        push_mark(marks, kind, index.update_call(update.0, update.1))?;
+    }
+    Ok(())
 }
 
-fn mark_proximity(
+// Marks the calls that the first fault of a kind concerns, if there is one.
+fn mark_kind(
     marks: &mut Vec<Mark>,
     index: &Index<'_>,
-    first: Option<ProximityFault>,
+    tally: &Tally,
+    kind: Kind,
 ) -> Result<(), AllocError>
-    requires { ForSome first (λ f. f.number ≤ event_cap) }
-    ensures { OnOk result (marks.new.items ≡ marks.old.items ++ option_map_or (proximity_marks (calls_of index.now)) first []) }
+    requires { tally.now ≡ tally_of (calls_of index.now) (views_of (calls_of index.now)) }
+    ensures { OnOk result (marks.new.items ≡ marks.old.items ++ kind_marks (calls_of index.now) tally.now kind) }
 {
-    let Some(fault) = first else {
-        return Ok(());
-    };
-    push_mark(marks, Kind::Proximity, Some(fault.view))?;
-    let number = side_number(fault.side, fault.number);
-    push_mark(
-        marks,
-        Kind::Proximity,
-        index.update_call(fault.component, number),
-    )
+    match first_fault_of(index, tally, kind) {
+        Some(fault) => {
+            let calls = concerned(*marks.allocator(), index, &fault)?;
+            mark_views(marks, kind, &calls.views)?;
+            mark_updates(marks, index, kind, &calls.updates)
+        }
+        None => Ok(()),
+    }
 }
 
-fn mark_read(marks: &mut Vec<Mark>, first: Option<ReadFault>) -> Result<(), AllocError>
-    ensures { OnOk result (marks.new.items ≡ marks.old.items ++ option_map_or read_marks first []) }
-{
-    let Some(fault) = first else {
-        return Ok(());
-    };
-    push_mark(marks, Kind::Read, Some(fault.view))?;
-    push_mark(marks, Kind::Read, Some(fault.other))
-}
-
-fn mark_write(
-    marks: &mut Vec<Mark>,
-    index: &Index<'_>,
-    first: Option<WriteFault>,
-) -> Result<(), AllocError>
-    ensures { OnOk result (marks.new.items ≡ marks.old.items ++ option_map_or (write_marks (calls_of index.now)) first []) }
-{
-    let Some(fault) = first else {
-        return Ok(());
-    };
-    push_mark(marks, Kind::Write, Some(fault.view))?;
-    let missed = index.update_call(fault.missed_component, fault.missed_number);
-    push_mark(marks, Kind::Write, missed)?;
-    let shown = index.update_call(fault.shown_component, fault.shown_number);
-    push_mark(marks, Kind::Write, shown)
-}
-
-/// The calls of the first fault of each kind that a tally has, as a report and an explanation name them.
-#[tactic(auto, unfolding(crate::specs::Marks::marks_of))]
+/// The calls that the first fault of each kind concerns, as an explanation has them.
 pub(crate) fn marks(
     alloc: Global,
     index: &Index<'_>,
@@ -117,12 +89,9 @@ pub(crate) fn marks(
     requires { tally.now ≡ tally_of (calls_of index.now) (views_of (calls_of index.now)) }
     ensures { IfOk result (λ marks. marks.items ≡ marks_of (calls_of index.now) tally.now) }
 {
-    // what is known of the history that the index is of
-    let _events = index.event_count();
     let mut marks = Vec::new(alloc);
-    mark_integrity(&mut marks, index, tally.integrity.first())?;
-    mark_proximity(&mut marks, index, tally.proximity.first())?;
-    mark_read(&mut marks, tally.read.first())?;
-    mark_write(&mut marks, index, tally.write.first())?;
+    for kind in &Kind::ALL {
+        mark_kind(&mut marks, index, tally, *kind)?;
+    }
     Ok(marks)
 }

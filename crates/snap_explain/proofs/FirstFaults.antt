@@ -1,5 +1,5 @@
 -- The first faults of the views of a range, range by range.
-use Rattle.std.proofs.Common.{◌≡◌, ◌∙◌, ◌+◌, ◌-◌, ◌<◌, ◌≤◌, ◌++◌, ◌||◌, ℕ, zero, suc, true, false, List, [], ◌∷◌, length, take, map, Option, Some, None, refl, sym, ap, subst, is_some, arith, append_assoc, append-nil, Fits, w32}
+use Rattle.std.proofs.Common.{◌≡◌, ◌∙◌, ◌+◌, ◌-◌, ◌<◌, ◌≤◌, ◌++◌, ◌||◌, ℕ, zero, suc, true, false, List, [], ◌∷◌, length, take, map, Option, Some, None, refl, sym, ap, ap₂, subst, is_some, arith, append_assoc, append-nil, Fits, w32}
 use Rattle.std.specs.Prelude.{if◌then◌else◌}
 use Rattle.std.specs.List.{cons_option, filter, filter_map, flat_map}
 use Rattle.std.specs.Option.{option_map, option_map_or}
@@ -15,18 +15,22 @@ use Rattle.snap_views.specs.Seen.{view_in, views_between}
 use Rattle.snap_views.proofs.Pieces.{range_joined}
 use Rattle.snap_views.proofs.Sizes.{few_views}
 use Rattle.snap_conditions.proofs.Ranges.{one_between}
+use Rattle.snap_conditions.specs.Kinds.{first_in, kinds}
 use Rattle.snap_conditions.specs.PartValue.{PartValue}
+use Rattle.snap_conditions.specs.declared.fault.Fault.{Fault}
+use Rattle.snap_conditions.specs.declared.fault.Fault.TheVariants as told
+use Rattle.snap_conditions.specs.declared.fault.Kind.{Kind}
+use Rattle.snap_conditions.specs.declared.fault.Kind.TheVariants.{Integrity, Proximity, Read, Write}
 use Rattle.snap_conditions.specs.Parts.{part_of}
 use Rattle.snap_conditions.specs.declared.fault.ReadFault.{ReadFault}
 use Rattle.snap_conditions.specs.declared.tally.Tally.{Tally}
 use Rattle.snap_conditions.specs.Tally.{reported_integrity, reported_proximity, reported_read, reported_write, tally_of}
 use Rattle.snap_theory.specs.Faults.{components, early_fault, first_of, integrity_fault, integrity_faults, listed as listed_components, missed_at, old_fault, proximity_faults, read_fault, read_faults, write_faults}
-use Rattle.snap_theory.specs.Levels.{printed_order}
-use Rattle.snap_report.specs.Reports.{has_no_fault, has_no_local_fault}
+use Rattle.snap_report.specs.Reports.{has_no_fault}
 use Rattle.snap_explain.specs.declared.view.Entries.{Entries}
 use Rattle.snap_explain.specs.Explanations.{explanation, long_explanation, order_text, verdict_text}
-use Rattle.snap_explain.specs.Faults.{faults_text, integrity_text, proximity_text, read_text, write_text}
-use Rattle.snap_explain.specs.FirstFaults.{first_faults_text, firsts_among, read_first}
+use Rattle.snap_explain.specs.Faults.{fault_text, faults_text, kind_text}
+use Rattle.snap_explain.specs.FirstFaults.{first_faults_text, firsts_among, firsts_text}
 
 -- the first so many of two lists, one after the other
 split_take : {X : Type 0} (m l : ℕ) (xs ys : List X) → l + length (take m xs) ≡ m → take m (xs ++ ys) ≡ take m xs ++ take l ys
@@ -52,14 +56,14 @@ told_none text most out =
 pub untold : {F : Type 0} (text : F → List ℕ) (most : ℕ) (xs : List F) (out : List ℕ) → xs ≡ [] → IsTold text most xs out out most
 untold text most xs out e = subst (λ z. IsTold text most z out out most) (sym e) (told_none text most out)
 
-pub told_next : {F : Type 0} (text : F → List ℕ) (first : Tally → Option F) (calls rs ss : List Call) (most left more : ℕ) (before out after : List ℕ) →
-    IsTold text most (firsts_among first calls rs) before out left → after ≡ out ++ flat_map text (take left (firsts_among first calls ss)) → more + length (take left (firsts_among first calls ss)) ≡ left →
-    IsTold text most (firsts_among first calls (rs ++ ss)) before after more
-told_next text first calls rs ss most left more before out after told e m =
-    let xs = firsts_among first calls rs in
-    let ys = firsts_among first calls ss in
-    let both : take most (firsts_among first calls (rs ++ ss)) ≡ take most xs ++ take left ys =
-    ap (take most) (filter_map-append (λ r. first (tally_of calls (r ∷ []))) rs ss) ∙ split_take most left xs ys told.more in
+pub told_next : (text : Fault → List ℕ) (kind : Kind) (calls rs ss : List Call) (most left more : ℕ) (before out after : List ℕ) →
+    IsTold text most (firsts_among kind calls rs) before out left → after ≡ out ++ flat_map text (take left (firsts_among kind calls ss)) → more + length (take left (firsts_among kind calls ss)) ≡ left →
+    IsTold text most (firsts_among kind calls (rs ++ ss)) before after more
+told_next text kind calls rs ss most left more before out after told e m =
+    let xs = firsts_among kind calls rs in
+    let ys = firsts_among kind calls ss in
+    let both : take most (firsts_among kind calls (rs ++ ss)) ≡ take most xs ++ take left ys =
+    ap (take most) (filter_map-append (λ r. first_in kind (tally_of calls (r ∷ []))) rs ss) ∙ split_take most left xs ys told.more in
     record {
       said = e ∙ ap (λ z. z ++ flat_map text (take left ys)) told.said ∙ append_assoc before (flat_map text (take most xs)) (flat_map text (take left ys))
           ∙ ap (λ z. before ++ z) (sym (flat_map-append text (take most xs) (take left ys))) ∙ ap (λ z. before ++ flat_map text z) (sym both);
@@ -75,20 +79,22 @@ pub all_views : (calls : List Call) (count : ℕ) → count ≡ length (views_of
 all_views calls count e = take_all (count - 0) (views_of calls) (omega (arith, e))
 
 -- no view of a part has a first fault, where the part has none
-no_firsts : {X F : Type 0} (faults : Call → List X) (reported : X → F) (rs : List Call) → option_map reported (first_of (flat_map faults rs)) ≡ None → filter_map (λ r. option_map reported (first_of (flat_map faults (r ∷ [])))) rs ≡ []
-no_firsts faults reported [] e = refl
-no_firsts {X} {F} faults reported (r ∷ rs) e = go (no_firsts faults reported rs) (faults r) e
+no_firsts : {X F G : Type 0} (faults : Call → List X) (reported : X → F) (wrap : F → G) (rs : List Call) → option_map reported (first_of (flat_map faults rs)) ≡ None →
+    filter_map (λ r. option_map wrap (option_map reported (first_of (flat_map faults (r ∷ []))))) rs ≡ []
+no_firsts faults reported wrap [] e = refl
+no_firsts {X} {F} {G} faults reported wrap (r ∷ rs) e = go (no_firsts faults reported wrap rs) (faults r) e
   where
-    Rest : List F
-    Rest = filter_map (λ r. option_map reported (first_of (flat_map faults (r ∷ [])))) rs
+    Rest : List G
+    Rest = filter_map (λ r. option_map wrap (option_map reported (first_of (flat_map faults (r ∷ []))))) rs
 
-    go : (option_map reported (first_of (flat_map faults rs)) ≡ None → Rest ≡ []) → (xs : List X) → option_map reported (first_of (xs ++ flat_map faults rs)) ≡ None → cons_option (option_map reported (first_of (xs ++ []))) Rest ≡ []
+    go : (option_map reported (first_of (flat_map faults rs)) ≡ None → Rest ≡ []) → (xs : List X) → option_map reported (first_of (xs ++ flat_map faults rs)) ≡ None →
+        cons_option (option_map wrap (option_map reported (first_of (xs ++ [])))) Rest ≡ []
     go more [] e = more e
     go more (x ∷ xs) e = absurd (cc e)
 
-pub no_read : (calls rs : List Call) (part : PartValue ReadFault) → part ≡ part_of reported_read (read_faults calls rs) → part.first ≡ None → firsts_among read_first calls rs ≡ []
+pub no_read : (calls rs : List Call) (part : PartValue ReadFault) → part ≡ part_of reported_read (read_faults calls rs) → part.first ≡ None → firsts_among Read calls rs ≡ []
 unfolding tally_of read_faults
-no_read calls rs part e none = no_firsts (λ r. map (λ s. (r, s)) (filter (read_fault r) (views_of calls))) reported_read rs (sym (ap (λ (p : PartValue ReadFault). p.first) e) ∙ none)
+no_read calls rs part e none = no_firsts (λ r. map (λ s. (r, s)) (filter (read_fault r) (views_of calls))) reported_read told.Read rs (sym (ap (λ (p : PartValue ReadFault). p.first) e) ∙ none)
 
 pub read_part_of : (calls rs : List Call) (t : Tally) → t ≡ tally_of calls rs → t.read ≡ part_of reported_read (read_faults calls rs)
 unfolding tally_of
@@ -99,47 +105,48 @@ is_nothing None e = refl
 is_nothing (Some x) e = absurd (false≢true (sym e))
 
 -- the first fault of a part is that of the first view of it that has one
-first_alone : {X F : Type 0} (text : F → List ℕ) (faults : Call → List X) (reported : X → F) (rs : List Call) →
-    option_map_or text (option_map reported (first_of (flat_map faults rs))) [] ≡ flat_map text (take 1 (filter_map (λ r. option_map reported (first_of (flat_map faults (r ∷ [])))) rs))
-first_alone text faults reported [] = refl
-first_alone {X} {F} text faults reported (r ∷ rs) = go (first_alone text faults reported rs) (faults r)
+first_alone : {X F G : Type 0} (text : G → List ℕ) (faults : Call → List X) (reported : X → F) (wrap : F → G) (rs : List Call) →
+    option_map_or text (option_map wrap (option_map reported (first_of (flat_map faults rs)))) [] ≡ flat_map text (take 1 (filter_map (λ r. option_map wrap (option_map reported (first_of (flat_map faults (r ∷ []))))) rs))
+first_alone text faults reported wrap [] = refl
+first_alone {X} {F} {G} text faults reported wrap (r ∷ rs) = go (first_alone text faults reported wrap rs) (faults r)
   where
-    Rest : List F
-    Rest = filter_map (λ r. option_map reported (first_of (flat_map faults (r ∷ [])))) rs
+    Rest : List G
+    Rest = filter_map (λ r. option_map wrap (option_map reported (first_of (flat_map faults (r ∷ []))))) rs
 
-    go : option_map_or text (option_map reported (first_of (flat_map faults rs))) [] ≡ flat_map text (take 1 Rest) → (xs : List X) →
-        option_map_or text (option_map reported (first_of (xs ++ flat_map faults rs))) [] ≡ flat_map text (take 1 (cons_option (option_map reported (first_of (xs ++ []))) Rest))
+    go : option_map_or text (option_map wrap (option_map reported (first_of (flat_map faults rs)))) [] ≡ flat_map text (take 1 Rest) → (xs : List X) →
+        option_map_or text (option_map wrap (option_map reported (first_of (xs ++ flat_map faults rs)))) [] ≡ flat_map text (take 1 (cons_option (option_map wrap (option_map reported (first_of (xs ++ [])))) Rest))
     go more [] = more
-    go more (x ∷ xs) = sym (append-nil (text (reported x)))
+    go more (x ∷ xs) = sym (append-nil (text (wrap (reported x))))
 
-four_equal : (a b c d e f g h : List ℕ) → a ≡ e → b ≡ f → c ≡ g → d ≡ h → a ++ b ++ c ++ d ≡ e ++ f ++ g ++ h
-four_equal a b c d e f g h i j k l = rw (i, j, k, l) refl
+-- what is said of a kind by one fault
+one_of_kind : (listed : Entries) (records : List ℕ) (calls : List Call) (kind : Kind) → kind_text listed records calls (tally_of calls (views_of calls)) kind ≡ firsts_text 1 listed records calls kind
+unfolding tally_of integrity_faults proximity_faults read_faults write_faults
+one_of_kind listed records calls Integrity =
+    first_alone (fault_text listed records calls) (λ r. map (λ k. (r, k)) (filter (integrity_fault calls r) (listed_components r))) reported_integrity told.Integrity (views_of calls)
+one_of_kind listed records calls Proximity =
+    first_alone (fault_text listed records calls) (λ r. map (λ k. (r, k)) (filter (λ k. old_fault calls r k || early_fault calls r k) components)) (reported_proximity calls) told.Proximity (views_of calls)
+one_of_kind listed records calls Read = first_alone (fault_text listed records calls) (λ r. map (λ s. (r, s)) (filter (read_fault r) (views_of calls))) reported_read told.Read (views_of calls)
+one_of_kind listed records calls Write = first_alone (fault_text listed records calls) (λ r. flat_map (missed_at calls r) components) reported_write told.Write (views_of calls)
 
--- with one fault of each kind, the text is that of the first faults of the tally
-pub one_of_each : (listed : Entries) (records : List ℕ) (calls : List Call) → faults_text listed records calls (tally_of calls (views_of calls)) ≡ first_faults_text 1 listed records calls
-unfolding tally_of integrity_faults proximity_faults read_faults write_faults first_faults_text
-one_of_each listed records calls =
-    let rs = views_of calls in
-    let i = first_alone (integrity_text listed records calls) (λ r. map (λ k. (r, k)) (filter (integrity_fault calls r) (listed_components r))) reported_integrity rs in
-    let p = first_alone (proximity_text listed records calls) (λ r. map (λ k. (r, k)) (filter (λ k. old_fault calls r k || early_fault calls r k) components)) (reported_proximity calls) rs in
-    let s = first_alone (read_text listed records calls) (λ r. map (λ s. (r, s)) (filter (read_fault r) (views_of calls))) reported_read rs in
-    let w = first_alone (write_text listed records calls) (λ r. flat_map (missed_at calls r) components) reported_write rs in
-    four_equal _ _ _ _ _ _ _ _ i p s w
+-- what is said of some kinds, each by one fault
+one_of_each : (listed : Entries) (records : List ℕ) (calls : List Call) (ks : List Kind) → flat_map (kind_text listed records calls (tally_of calls (views_of calls))) ks ≡ flat_map (firsts_text 1 listed records calls) ks
+one_of_each listed records calls [] = refl
+one_of_each listed records calls (k ∷ ks) = ap₂ (λ a b. a ++ b) (one_of_kind listed records calls k) (one_of_each listed records calls ks)
 
 pub long_with_one : (listed : Entries) (records : List ℕ) (calls : List Call) (t : Tally) → t ≡ tally_of calls (views_of calls) → explanation listed records calls t ≡ long_explanation 1 listed records calls t
 unfolding explanation long_explanation
 long_with_one listed records calls t whole =
-    let same : faults_text listed records calls t ≡ first_faults_text 1 listed records calls = ap (faults_text listed records calls) whole ∙ one_of_each listed records calls in
-    ap (λ z. if has_no_fault t then order_text records (printed_order calls) else verdict_text (has_no_local_fault t) ++ z) same
+    let same : faults_text listed records calls t ≡ first_faults_text 1 listed records calls = ap (faults_text listed records calls) whole ∙ one_of_each listed records calls kinds in
+    ap (λ z. verdict_text t ++ (if has_no_fault t then order_text records calls else z)) same
 
 pub long_of_atomic : (most : ℕ) (listed : Entries) (records : List ℕ) (calls : List Call) (t : Tally) → has_no_fault t ≡ true → explanation listed records calls t ≡ long_explanation most listed records calls t
 unfolding explanation long_explanation
 long_of_atomic most listed records calls t atomic =
-    ap (λ b. if b then order_text records (printed_order calls) else verdict_text (has_no_local_fault t) ++ faults_text listed records calls t) atomic
-    ∙ sym (ap (λ b. if b then order_text records (printed_order calls) else verdict_text (has_no_local_fault t) ++ first_faults_text most listed records calls) atomic)
+    ap (λ b. verdict_text t ++ (if b then order_text records calls else faults_text listed records calls t)) atomic
+    ∙ sym (ap (λ b. verdict_text t ++ (if b then order_text records calls else first_faults_text most listed records calls)) atomic)
 
 pub long_of_faulty : (most : ℕ) (listed : Entries) (records : List ℕ) (calls : List Call) (t : Tally) → has_no_fault t ≡ false →
-    verdict_text (has_no_local_fault t) ++ first_faults_text most listed records calls ≡ long_explanation most listed records calls t
+    verdict_text t ++ first_faults_text most listed records calls ≡ long_explanation most listed records calls t
 unfolding long_explanation
 long_of_faulty most listed records calls t faulty =
-    sym (ap (λ b. if b then order_text records (printed_order calls) else verdict_text (has_no_local_fault t) ++ first_faults_text most listed records calls) faulty)
+    sym (ap (λ b. verdict_text t ++ (if b then order_text records calls else first_faults_text most listed records calls)) faulty)

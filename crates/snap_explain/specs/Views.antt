@@ -2,7 +2,7 @@
 use Rattle.std.specs.Prelude.{ℕ, Bool, not, List, [], ◌∷◌, ◌++◌, ◌==◌, nat_lt, codes, decimal, length, if◌then◌else◌}
 use Rattle.std.specs.List.{count_by, flat_map, list_any}
 use Rattle.snap_core.specs.declared.entry.Entry.{Entry}
-use Rattle.snap_core.specs.Calls.{Call, entries_of}
+use Rattle.snap_core.specs.Calls.{Call, call_numbered, entries_of}
 use Rattle.snap_report.specs.Lines.{entry_word, update_word}
 use Rattle.snap_explain.specs.declared.view.Entries.{Entries}
 use Rattle.snap_explain.specs.declared.view.Entries.TheVariants.{OfFault, Whole}
@@ -37,6 +37,10 @@ shown_text Whole updates es = entries_text es
 -- call A of process P, records B and E: view .., for a view of a fault that these updates show
 unfoldable pub view_text : Entries → List ℕ → List (ℕ × ℕ) → Call → List ℕ
 view_text listed records updates c = call_begin records c ++ codes "view" ++ shown_text listed updates (entries_of c.operation) ++ codes "\n"
+
+-- the lines of the views of these call numbers, whose fault these updates show
+abbrev pub views_text : Entries → List ℕ → List Call → List (ℕ × ℕ) → List ℕ → List ℕ
+views_text listed records calls updates views = flat_map (λ v. view_text listed records updates (call_numbered calls v)) views
 
 -- the number that is shown of the component of an update, as 0:1
 abbrev pub number_word : (ℕ → ℕ) → ℕ × ℕ → List ℕ

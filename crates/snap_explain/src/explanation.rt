@@ -6,15 +6,15 @@ ghost use Rattle.snap_core.specs.Calls.{calls_of, views_of};
 ghost use Rattle.snap_conditions.specs.Tally.{tally_of};
 ghost use Rattle.snap_theory.specs.Levels.{printed_order};
 ghost use Rattle.snap_report.specs.Orders.{HasLine, calls_numbered};
-ghost use Rattle.snap_report.specs.Reports.{has_no_fault, has_no_local_fault};
+ghost use Rattle.snap_report.specs.Reports.{has_no_fault};
 ghost use Rattle.snap_explain.specs.Calls.{call_text};
-ghost use Rattle.snap_explain.specs.Explanations.{IsExplanation, IsLongExplanation, verdict_text};
+ghost use Rattle.snap_explain.specs.Explanations.{IsExplanation, IsLongExplanation, sentences_text, verdict_text};
 
 use crate::call::put_call_line;
 use crate::faults::put_faults;
 use crate::first_faults::put_first_faults;
-use crate::view::Entries;
-use snap_conditions::{Tally, is_regular};
+use crate::view::{Entries, Lines};
+use snap_conditions::{Tally, is_atomic, is_regular};
 use snap_index::Index;
 use std::alloc::{AllocError, Global};
 
@@ -27,11 +27,15 @@ pub struct Detail {
     pub faults: u32,
 }
 
-// Adds the verdict on a history that is not atomic.
+// Adds the verdict.
 fn put_verdict(out: &mut Vec<u8>, tally: &Tally) -> Result<(), AllocError>
-    ensures { OnOk result (out.new.items ≡ out.old.items ++ verdict_text (has_no_local_fault tally.now)) }
+    ensures { OnOk result (out.new.items ≡ out.old.items ++ verdict_text tally.now) }
 {
-    if is_regular(tally) {
+    if is_atomic(tally) {
+        out.extend_from_slice(
+            b"atomic: in this order each view shows the latest updates before it\n",
+        )
+    } else if is_regular(tally) {
         out.extend_from_slice(b"regular, and not atomic\n")
     } else {
         out.extend_from_slice(b"not regular\n")
@@ -76,18 +80,34 @@ pub fn explain(
     ensures { IfOk result (λ text. IsExplanation listed records.now (calls_of index.now) text.items) }
 {
     let mut out = Vec::new(alloc);
+    put_verdict(&mut out, tally)?;
     match order {
-        Some(order) => {
-            out.extend_from_slice(
-                b"atomic: in this order each view shows the latest updates before it\n",
-            )?;
-            put_calls(&mut out, index, records, order)?
-        }
-        None => {
-            put_verdict(&mut out, tally)?;
-            put_faults(&mut out, index, records, listed, tally)?
-        }
+        Some(order) => put_calls(&mut out, index, records, order)?,
+        None => put_faults(&mut out, index, Lines { records, listed }, tally)?,
     }
+    Ok(out)
+}
+
+/// The explanation without the order of an atomic history: the verdict, and a sentence for the first fault of each kind with the calls
+/// concerned. Of a view of a fault it lists the entries of the fault. It is made from the tally of all completed views, and from the number
+/// of the record of each event.
+pub fn sentences(
+    alloc: Global,
+    index: &Index<'_>,
+    tally: &Tally,
+    records: &[u32],
+) -> Result<Vec<u8>, AllocError>
+    requires tally { tally.now ≡ tally_of (calls_of index.now) (views_of (calls_of index.now)) }
+    requires each { length records.now ≡ length index.now }
+    ensures { IfOk result (λ text. text.items ≡ sentences_text records.now (calls_of index.now) tally.now) }
+{
+    let lines = Lines {
+        records,
+        listed: Entries::OfFault,
+    };
+    let mut out = Vec::new(alloc);
+    put_verdict(&mut out, tally)?;
+    put_faults(&mut out, index, lines, tally)?;
     Ok(out)
 }
 
@@ -110,7 +130,7 @@ fn explain_first_faults(
     }
     let mut out = Vec::new(alloc);
     put_verdict(&mut out, tally)?;
-    put_first_faults(&mut out, index, records, listed, tally, most)?;
+    put_first_faults(&mut out, index, Lines { records, listed }, tally, most)?;
     Ok(out)
 }
 

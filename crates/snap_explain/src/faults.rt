@@ -1,99 +1,28 @@
 //! What is said of the first fault of each kind.
-ghost use Rattle.std.specs.Prelude.{◌≡◌, ◌<◌, ◌≤◌, ◌++◌, ◌∷◌, ℕ, List, [], Option, OnOk, length};
-ghost use Rattle.std.specs.Option.{ForSome, option_map_or};
-ghost use Rattle.snap_core.specs.Calls.{Call, call_numbered, calls_of, views_of};
+ghost use Rattle.std.specs.Prelude.{◌≡◌, ◌≤◌, ◌++◌, All, OnOk, length};
+ghost use Rattle.snap_core.specs.Calls.{call_numbered, calls_of, views_of};
 ghost use Rattle.snap_core.specs.Events.{event_cap};
 ghost use Rattle.snap_conditions.specs.Tally.{tally_of};
-ghost use Rattle.snap_conditions.specs.declared.tally.Tally.{Tally};
-ghost use Rattle.snap_views.specs.Seen.{view_in};
+ghost use Rattle.snap_witness.specs.Concerned.{IsNamed};
 ghost use Rattle.snap_witness.specs.Places.{AreReadAt, IsViewAt, side_number as spec_side_number};
-ghost use Rattle.snap_explain.specs.declared.view.Entries.{Entries};
-ghost use Rattle.snap_explain.specs.FirstFaults.{integrity_first, proximity_first, read_first, write_first};
-ghost use Rattle.snap_explain.specs.Faults.{against_text, compared_text, concerned_text, disagreement_text, faults_text, integrity_text, proximity_text, read_sentence, read_text, side_text, write_sentence, write_text};
+ghost use Rattle.snap_explain.specs.Faults.{against_text, compared_text, concerned_text, fault_text, faults_text, integrity_sentence, kind_text, proximity_sentence, read_sentence, read_text, sentence_text, side_text, write_sentence};
 
 use crate::call::put_updates;
-use crate::view::{Entries, put_numbers, put_view_line};
+use crate::view::{Lines, put_numbers, put_views};
 use snap_conditions::{
-    IntegrityFault, ProximityFault, ReadFault, Side, Tally, WriteFault, tally_range,
-    tally_without_read,
+    Fault, IntegrityFault, Kind, ProximityFault, ReadFault, Side, Tally, WriteFault,
 };
 use snap_index::Index;
 use snap_report::{put_call, put_entry, put_number, put_update};
-use snap_witness::{least_exceeding, read_updates, side_number, view_numbered};
+use snap_witness::{concerned, first_fault_of, least_exceeding, side_number, view_numbered};
 use std::alloc::AllocError;
 
-// A fault that is explained, if its views are completed views of the history.
-pub(crate) trait Explained: Copy {
-    ghost text: { Entries → List ℕ → List Call → Self → List ℕ };
-
-    ghost is_named: { List Call → Self → Type 0 };
-
-    ghost first: { Tally → Option Self };
-
-    // The first fault of the kind of the completed view at a place, if it has one.
-    fn first_at(index: &Index<'_>, place: u32) -> Option<Self>
-        requires { place < length (views_of (calls_of index.now)) }
-        ensures first { result ≡ first (tally_of (calls_of index.now) (view_in (calls_of index.now) place ∷ [])) }
-        ensures named { ForSome result (is_named (calls_of index.now)) };
-
-    // Adds its sentence and the lines of its calls.
-    fn put(
-        &self,
-        out: &mut Vec<u8>,
-        index: &Index<'_>,
-        records: &[u32],
-        listed: Entries,
-    ) -> Result<(), AllocError>
-        requires each { length records.now ≡ length index.now }
-        requires named { is_named (calls_of index.now) self.now }
-        ensures { OnOk result (out.new.items ≡ out.old.items ++ text listed records.now (calls_of index.now) self.now) };
-}
-
-// Adds the line of a view, and the lines of the updates that show its fault.
-fn put_concerned(
-    out: &mut Vec<u8>,
-    index: &Index<'_>,
-    records: &[u32],
-    listed: Entries,
-    view: u32,
-    updates: &[(u8, u32)],
-) -> Result<(), AllocError>
-    requires each { length records.now ≡ length index.now }
-    requires named { IsViewAt (calls_of index.now) view }
-    ensures { OnOk result (out.new.items ≡ out.old.items ++ concerned_text listed records.now (calls_of index.now) view updates.now) }
+fn put_integrity(out: &mut Vec<u8>, fault: &IntegrityFault) -> Result<(), AllocError>
+    ensures { OnOk result (out.new.items ≡ out.old.items ++ integrity_sentence fault.now) }
 {
-    put_view_line(out, index, records, listed, view, updates)?;
-    put_updates(out, index, records, updates)
-}
-
-impl Explained for IntegrityFault {
-    ghost text = { integrity_text };
-
-    ghost is_named = { λ calls f. IsViewAt calls f.view };
-
-    ghost first = { integrity_first };
-
-    fn first_at(index: &Index<'_>, place: u32) -> Option<IntegrityFault> {
-        // what is known of the history that the index is of
-        let _events = index.event_count();
-        tally_without_read(index, place, place + 1)
-            .integrity
-            .first()
-    }
-
-    fn put(
-        &self,
-        out: &mut Vec<u8>,
-        index: &Index<'_>,
-        records: &[u32],
-        listed: Entries,
-    ) -> Result<(), AllocError> {
-        put_call(out, b"integrity: view ", self.view)?;
-        put_entry(out, b" shows ", &self.entry)?;
-        out.extend_from_slice(b", which no update wrote\n")?;
-        let written = (self.entry.component, self.entry.number);
-        put_concerned(out, index, records, listed, self.view, &[written])
-    }
+    put_call(out, b"integrity: view ", fault.view)?;
+    put_entry(out, b" shows ", &fault.entry)?;
+    out.extend_from_slice(b", which no update wrote\n")
 }
 
 // Adds on which side of its view the update of a proximity fault is.
@@ -112,41 +41,14 @@ fn put_side(out: &mut Vec<u8>, fault: &ProximityFault, update: u32) -> Result<()
     }
 }
 
-impl Explained for ProximityFault {
-    ghost text = { proximity_text };
-
-    ghost is_named = { λ calls f. IsViewAt calls f.view × (f.number ≤ event_cap) };
-
-    ghost first = { proximity_first };
-
-    fn first_at(index: &Index<'_>, place: u32) -> Option<ProximityFault> {
-        // what is known of the history that the index is of
-        let _events = index.event_count();
-        tally_without_read(index, place, place + 1)
-            .proximity
-            .first()
-    }
-
-    fn put(
-        &self,
-        out: &mut Vec<u8>,
-        index: &Index<'_>,
-        records: &[u32],
-        listed: Entries,
-    ) -> Result<(), AllocError> {
-        let update = side_number(self.side, self.number);
-        put_call(out, b"proximity: view ", self.view)?;
-        put_update(out, b" shows ", self.component, self.number)?;
-        put_side(out, self, update)?;
-        put_concerned(
-            out,
-            index,
-            records,
-            listed,
-            self.view,
-            &[(self.component, update)],
-        )
-    }
+fn put_proximity(out: &mut Vec<u8>, fault: &ProximityFault) -> Result<(), AllocError>
+    requires { fault.now.number ≤ event_cap }
+    ensures { OnOk result (out.new.items ≡ out.old.items ++ proximity_sentence fault.now) }
+{
+    let update = side_number(fault.side, fault.number);
+    put_call(out, b"proximity: view ", fault.view)?;
+    put_update(out, b" shows ", fault.component, fault.number)?;
+    put_side(out, fault, update)
 }
 
 // Adds why a view that shows more of some component than another should show no less of any.
@@ -200,48 +102,18 @@ fn put_compared(
     out.extend_from_slice(b"\n")
 }
 
-// Adds what is said of a read fault that these updates show.
-fn put_disagreement(
+// Adds the sentence of a read fault, and what both views show of the components of the updates that show it.
+fn put_read_text(
     out: &mut Vec<u8>,
     index: &Index<'_>,
-    records: &[u32],
-    listed: Entries,
     fault: &ReadFault,
     updates: &[(u8, u32)],
 ) -> Result<(), AllocError>
-    requires each { length records.now ≡ length index.now }
     requires named { AreReadAt (calls_of index.now) fault.now }
-    ensures { OnOk result (out.new.items ≡ out.old.items ++ disagreement_text listed records.now (calls_of index.now) updates.now fault.now) }
+    ensures { OnOk result (out.new.items ≡ out.old.items ++ read_text (calls_of index.now) updates.now fault.now) }
 {
     put_read(out, index, fault)?;
-    put_compared(out, index, fault, updates)?;
-    put_view_line(out, index, records, listed, fault.view, updates)?;
-    put_concerned(out, index, records, listed, fault.other, updates)
-}
-
-impl Explained for ReadFault {
-    ghost text = { read_text };
-
-    ghost is_named = { AreReadAt };
-
-    ghost first = { read_first };
-
-    fn first_at(index: &Index<'_>, place: u32) -> Option<ReadFault> {
-        // what is known of the history that the index is of
-        let _events = index.event_count();
-        tally_range(index, place, place + 1).read.first()
-    }
-
-    fn put(
-        &self,
-        out: &mut Vec<u8>,
-        index: &Index<'_>,
-        records: &[u32],
-        listed: Entries,
-    ) -> Result<(), AllocError> {
-        let updates = read_updates(*out.allocator(), index, self.view, self.other)?;
-        put_disagreement(out, index, records, listed, self, &updates)
-    }
+    put_compared(out, index, fault, updates)
 }
 
 // Adds the sentence of a write fault.
@@ -264,47 +136,70 @@ fn put_write(out: &mut Vec<u8>, fault: &WriteFault) -> Result<(), AllocError>
     out.extend_from_slice(b", which had ended before that one began\n")
 }
 
-impl Explained for WriteFault {
-    ghost text = { write_text };
-
-    ghost is_named = { λ calls f. IsViewAt calls f.view };
-
-    ghost first = { write_first };
-
-    fn first_at(index: &Index<'_>, place: u32) -> Option<WriteFault> {
-        // what is known of the history that the index is of
-        let _events = index.event_count();
-        tally_without_read(index, place, place + 1).write.first()
-    }
-
-    fn put(
-        &self,
-        out: &mut Vec<u8>,
-        index: &Index<'_>,
-        records: &[u32],
-        listed: Entries,
-    ) -> Result<(), AllocError> {
-        let missed = (self.missed_component, self.missed_number);
-        let shown = (self.shown_component, self.shown_number);
-        put_write(out, self)?;
-        put_concerned(out, index, records, listed, self.view, &[missed, shown])
+// Adds the sentence of a fault that these updates show.
+fn put_sentence(
+    out: &mut Vec<u8>,
+    index: &Index<'_>,
+    fault: &Fault,
+    updates: &[(u8, u32)],
+) -> Result<(), AllocError>
+    requires { IsNamed (calls_of index.now) fault.now }
+    ensures { OnOk result (out.new.items ≡ out.old.items ++ sentence_text (calls_of index.now) updates.now fault.now) }
+{
+    match fault {
+        Fault::Integrity(fault) => put_integrity(out, fault),
+        Fault::Proximity(fault) => put_proximity(out, fault),
+        Fault::Read(fault) => put_read_text(out, index, fault, updates),
+        Fault::Write(fault) => put_write(out, fault),
     }
 }
 
-// Adds what is said of the first fault of a kind, if there is one.
-fn put_first<F: Explained>(
+// Adds the lines of the views of a fault, and of the updates that show it.
+fn put_concerned(
     out: &mut Vec<u8>,
     index: &Index<'_>,
-    records: &[u32],
-    listed: Entries,
-    first: Option<F>,
+    lines: Lines<'_>,
+    views: &[u32],
+    updates: &[(u8, u32)],
 ) -> Result<(), AllocError>
-    requires each { length records.now ≡ length index.now }
-    requires named { ForSome first (F.is_named (calls_of index.now)) }
-    ensures { OnOk result (out.new.items ≡ out.old.items ++ option_map_or (F.text listed records.now (calls_of index.now)) first []) }
+    requires each { length lines.records.now ≡ length index.now }
+    requires named { All (IsViewAt (calls_of index.now)) views.now }
+    ensures { OnOk result (out.new.items ≡ out.old.items ++ concerned_text lines.entry.listed lines.entry.records.now (calls_of index.now) views.now updates.now) }
 {
-    match first {
-        Some(fault) => fault.put(out, index, records, listed),
+    put_views(out, index, lines, views, updates)?;
+    put_updates(out, index, lines.records, updates)
+}
+
+/// Adds the sentence of a fault, and the lines of the calls that it concerns.
+pub(crate) fn put_fault(
+    out: &mut Vec<u8>,
+    index: &Index<'_>,
+    lines: Lines<'_>,
+    fault: &Fault,
+) -> Result<(), AllocError>
+    requires each { length lines.records.now ≡ length index.now }
+    requires named { IsNamed (calls_of index.now) fault.now }
+    ensures { OnOk result (out.new.items ≡ out.old.items ++ fault_text lines.entry.listed lines.entry.records.now (calls_of index.now) fault.now) }
+{
+    let calls = concerned(*out.allocator(), index, fault)?;
+    put_sentence(out, index, fault, &calls.updates)?;
+    put_concerned(out, index, lines, &calls.views, &calls.updates)
+}
+
+// Adds what is said of the first fault of a kind, if there is one.
+fn put_kind(
+    out: &mut Vec<u8>,
+    index: &Index<'_>,
+    lines: Lines<'_>,
+    tally: &Tally,
+    kind: Kind,
+) -> Result<(), AllocError>
+    requires each { length lines.records.now ≡ length index.now }
+    requires tally { tally.now ≡ tally_of (calls_of index.now) (views_of (calls_of index.now)) }
+    ensures { OnOk result (out.new.items ≡ out.old.items ++ kind_text lines.entry.listed lines.entry.records.now (calls_of index.now) tally.now kind) }
+{
+    match first_fault_of(index, tally, kind) {
+        Some(fault) => put_fault(out, index, lines, &fault),
         None => Ok(()),
     }
 }
@@ -313,18 +208,15 @@ fn put_first<F: Explained>(
 pub(crate) fn put_faults(
     out: &mut Vec<u8>,
     index: &Index<'_>,
-    records: &[u32],
-    listed: Entries,
+    lines: Lines<'_>,
     tally: &Tally,
 ) -> Result<(), AllocError>
-    requires each { length records.now ≡ length index.now }
+    requires each { length lines.records.now ≡ length index.now }
     requires tally { tally.now ≡ tally_of (calls_of index.now) (views_of (calls_of index.now)) }
-    ensures { OnOk result (out.new.items ≡ out.old.items ++ faults_text listed records.now (calls_of index.now) tally.now) }
+    ensures { OnOk result (out.new.items ≡ out.old.items ++ faults_text lines.entry.listed lines.entry.records.now (calls_of index.now) tally.now) }
 {
-    // what is known of the history that the index is of
-    let _events = index.event_count();
-    put_first(out, index, records, listed, tally.integrity.first())?;
-    put_first(out, index, records, listed, tally.proximity.first())?;
-    put_first(out, index, records, listed, tally.read.first())?;
-    put_first(out, index, records, listed, tally.write.first())
+    for kind in &Kind::ALL {
+        put_kind(out, index, lines, tally, *kind)?;
+    }
+    Ok(())
 }

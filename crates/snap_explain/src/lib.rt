@@ -12,7 +12,7 @@ mod test_case;
 mod view;
 mod xml;
 
-pub use explanation::{Detail, explain, explain_faults};
+pub use explanation::{Detail, explain, explain_faults, sentences};
 pub use refusal::explain_refusal;
 pub use test_case::{Ending, ended_case, passed_case};
 pub use view::Entries;

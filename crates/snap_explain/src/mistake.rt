@@ -8,7 +8,7 @@ use memchr::memchr;
 use snap_text::stamp_of;
 
 /// A mistake in the field data, in the order in which the mistakes are looked for. Entries are counted from 1.
-#[derive(Clone, Copy, Debug, PartialEq, Eq)]
+#[derive(Clone, Copy)]
 pub(crate) enum Mistake {
     /// The begin of a view has a field that is not empty.
     BeginOfView,

@@ -1,11 +1,11 @@
 //! The line of a view of a fault, and what it shows of the components of the fault's updates.
-ghost use Rattle.std.specs.Prelude.{◌≡◌, ◌++◌, OnOk, codes, length};
+ghost use Rattle.std.specs.Prelude.{◌≡◌, ◌++◌, All, OnOk, codes, length};
 ghost use Rattle.std.specs.List.{flat_map};
 ghost use Rattle.snap_core.specs.Calls.{call_numbered, calls_of};
 ghost use Rattle.snap_core.specs.Entries.{entry_of, number_in};
 ghost use Rattle.snap_witness.specs.Places.{IsViewAt};
 ghost use Rattle.snap_explain.specs.Faults.{view_numbers};
-ghost use Rattle.snap_explain.specs.Views.{has_component as spec_has_component, named_text, number_word, numbers_text, of_fault_text, other_count as spec_other_count, shown_text, some_text, view_text};
+ghost use Rattle.snap_explain.specs.Views.{has_component as spec_has_component, named_text, number_word, numbers_text, of_fault_text, other_count as spec_other_count, shown_text, some_text, view_text, views_text};
 
 use crate::call::{put_begin, put_entries};
 use snap_core::{Entry, View};
@@ -24,6 +24,13 @@ pub enum Entries {
     OfFault,
     /// All.
     Whole,
+}
+
+/// How the lines of calls are written: the numbers of the records of the events, and which entries of the views of a fault are listed.
+#[derive(Clone, Copy)]
+pub(crate) struct Lines<'x> {
+    pub records: &'x [u32],
+    pub listed: Entries,
 }
 
 // Whether some update is of the component.
@@ -109,23 +116,45 @@ fn put_shown(
     }
 }
 
-/// Adds the line of a view of a fault that these updates show.
-pub(crate) fn put_view_line(
+// Adds the line of a view of a fault that these updates show.
+fn put_view(
     out: &mut Vec<u8>,
     index: &Index<'_>,
-    records: &[u32],
-    listed: Entries,
+    lines: Lines<'_>,
     view: u32,
     updates: &[(u8, u32)],
 ) -> Result<(), AllocError>
-    requires each { length records.now ≡ length index.now }
+    requires each { length lines.records.now ≡ length index.now }
     requires named { IsViewAt (calls_of index.now) view }
-    ensures { OnOk result (out.new.items ≡ out.old.items ++ view_text listed records.now updates.now (call_numbered (calls_of index.now) view)) }
+    ensures { OnOk result (out.new.items ≡ out.old.items ++ view_text lines.entry.listed lines.entry.records.now updates.now (call_numbered (calls_of index.now) view)) }
 {
-    put_begin(out, index, records, view)?;
+    put_begin(out, index, lines.records, view)?;
     out.extend_from_slice(b"view")?;
-    put_shown(out, listed, updates, view_numbered(index, view).entries())?;
+    put_shown(
+        out,
+        lines.listed,
+        updates,
+        view_numbered(index, view).entries(),
+    )?;
     out.extend_from_slice(b"\n")
+}
+
+/// Adds the lines of the views of a fault that these updates show.
+pub(crate) fn put_views(
+    out: &mut Vec<u8>,
+    index: &Index<'_>,
+    lines: Lines<'_>,
+    views: &[u32],
+    updates: &[(u8, u32)],
+) -> Result<(), AllocError>
+    requires each { length lines.records.now ≡ length index.now }
+    requires named { All (IsViewAt (calls_of index.now)) views.now }
+    ensures { OnOk result (out.new.items ≡ out.old.items ++ views_text lines.entry.listed lines.entry.records.now (calls_of index.now) updates.now views.now) }
+{
+    for view in views {
+        put_view(out, index, lines, *view, updates)?;
+    }
+    Ok(())
 }
 
 // Adds the number that is shown of the component of each update, after "and".

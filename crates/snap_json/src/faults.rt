@@ -1,43 +1,26 @@
 //! The objects of the first faults.
-ghost use Rattle.std.specs.Prelude.{◌≡◌, ◌≤◌, ◌++◌, ◌∷◌, ℕ, List, OnOk, codes, decimal, length};
-ghost use Rattle.std.specs.Option.{ForSome};
-ghost use Rattle.json.specs.Json.{Json};
+ghost use Rattle.std.specs.Prelude.{◌≡◌, ◌++◌, ◌∷◌, OnOk, codes, decimal, length};
 ghost use Rattle.json.specs.Token as token;
 ghost use Rattle.json.specs.Tree.{json_tokens};
-ghost use Rattle.snap_core.specs.Calls.{Call, calls_of, views_of};
-ghost use Rattle.snap_core.specs.Events.{event_cap};
+ghost use Rattle.snap_core.specs.Calls.{calls_of, views_of};
+ghost use Rattle.snap_conditions.specs.Kinds.{kind_word};
 ghost use Rattle.snap_conditions.specs.Tally.{tally_of};
+ghost use Rattle.snap_conditions.specs.declared.fault.Fault.TheVariants.{Proximity};
 ghost use Rattle.snap_report.specs.Faults.{side_word};
+ghost use Rattle.snap_witness.specs.Concerned.{IsNamed};
 ghost use Rattle.snap_witness.specs.Places.{AreReadAt, IsViewAt};
-ghost use Rattle.snap_json.specs.Faults.{fault_fields, integrity_json, named_json, numbered_json, part_json, proximity_json, read_json, write_json};
+ghost use Rattle.snap_json.specs.Faults.{fault_fields, fault_json, first_json, integrity_json, named_json, numbered_json, proximity_json, read_json, write_json};
 ghost use Rattle.snap_json.specs.Values.{field_tokens};
 
 use crate::call::{put_call, put_entry, put_update};
 use crate::differs::put_differs;
 use crate::line::Line;
-use snap_conditions::{IntegrityFault, Part, ProximityFault, ReadFault, Side, Tally, WriteFault};
+use snap_conditions::{
+    Fault, IntegrityFault, Kind, ProximityFault, ReadFault, Side, Tally, WriteFault,
+};
 use snap_index::Index;
-use snap_witness::side_number;
+use snap_witness::{first_fault_of, side_number};
 use std::alloc::AllocError;
-
-// A fault that has an object, if its views are completed views of the history.
-trait Told: Copy {
-    ghost json: { List ℕ → List Call → ℕ → Self → Json };
-
-    ghost is_named: { List Call → Self → Type 0 };
-
-    // Adds its object, which begins with the number of faults of its kind.
-    fn put(
-        &self,
-        line: &mut Line,
-        index: &Index<'_>,
-        records: &[u32],
-        count: u64,
-    ) -> Result<(), AllocError>
-        requires each { length records.now ≡ length index.now }
-        requires named { is_named (calls_of index.now) self.now }
-        ensures { OnOk result (line.new.writer.tokens ≡ line.old.writer.tokens ++ json_tokens (json records.now (calls_of index.now) count self.now)) };
-}
 
 // Begins the object of a fault, with the number of faults of its kind and its view.
 fn begin_fault(
@@ -58,31 +41,29 @@ fn begin_fault(
     put_call(line, index, records, view)
 }
 
-impl Told for IntegrityFault {
-    ghost json = { integrity_json };
-
-    ghost is_named = { λ calls f. IsViewAt calls f.view };
-
-    fn put(
-        &self,
-        line: &mut Line,
-        index: &Index<'_>,
-        records: &[u32],
-        count: u64,
-    ) -> Result<(), AllocError> {
-        begin_fault(line, index, records, count, self.view)?;
-        line.key("entry")?;
-        put_entry(line, &self.entry)?;
-        line.key("update")?;
-        put_update(
-            line,
-            index,
-            records,
-            self.entry.component,
-            self.entry.number,
-        )?;
-        line.end_object()
-    }
+fn put_integrity(
+    line: &mut Line,
+    index: &Index<'_>,
+    records: &[u32],
+    count: u64,
+    fault: &IntegrityFault,
+) -> Result<(), AllocError>
+    requires each { length records.now ≡ length index.now }
+    requires named { IsViewAt (calls_of index.now) fault.now.view }
+    ensures { OnOk result (line.new.writer.tokens ≡ line.old.writer.tokens ++ json_tokens (integrity_json records.now (calls_of index.now) count fault.now)) }
+{
+    begin_fault(line, index, records, count, fault.view)?;
+    line.key("entry")?;
+    put_entry(line, &fault.entry)?;
+    line.key("update")?;
+    put_update(
+        line,
+        index,
+        records,
+        fault.entry.component,
+        fault.entry.number,
+    )?;
+    line.end_object()
 }
 
 fn word_of(side: Side) -> &'static str
@@ -94,49 +75,45 @@ fn word_of(side: Side) -> &'static str
     }
 }
 
-impl Told for ProximityFault {
-    ghost json = { proximity_json };
-
-    ghost is_named = { λ calls f. IsViewAt calls f.view × (f.number ≤ event_cap) };
-
-    fn put(
-        &self,
-        line: &mut Line,
-        index: &Index<'_>,
-        records: &[u32],
-        count: u64,
-    ) -> Result<(), AllocError> {
-        let update = side_number(self.side, self.number);
-        begin_fault(line, index, records, count, self.view)?;
-        line.number("component", u64::from(self.component))?;
-        line.number("number", u64::from(self.number))?;
-        line.text("side", word_of(self.side))?;
-        line.key("update")?;
-        put_update(line, index, records, self.component, update)?;
-        line.end_object()
-    }
+fn put_proximity(
+    line: &mut Line,
+    index: &Index<'_>,
+    records: &[u32],
+    count: u64,
+    fault: &ProximityFault,
+) -> Result<(), AllocError>
+    requires each { length records.now ≡ length index.now }
+    requires named { IsNamed (calls_of index.now) (Proximity fault.now) }
+    ensures { OnOk result (line.new.writer.tokens ≡ line.old.writer.tokens ++ json_tokens (proximity_json records.now (calls_of index.now) count fault.now)) }
+{
+    let update = side_number(fault.side, fault.number);
+    begin_fault(line, index, records, count, fault.view)?;
+    line.number("component", u64::from(fault.component))?;
+    line.number("number", u64::from(fault.number))?;
+    line.text("side", word_of(fault.side))?;
+    line.key("update")?;
+    put_update(line, index, records, fault.component, update)?;
+    line.end_object()
 }
 
-impl Told for ReadFault {
-    ghost json = { read_json };
-
-    ghost is_named = { AreReadAt };
-
-    fn put(
-        &self,
-        line: &mut Line,
-        index: &Index<'_>,
-        records: &[u32],
-        count: u64,
-    ) -> Result<(), AllocError> {
-        begin_fault(line, index, records, count, self.view)?;
-        line.key("other")?;
-        put_call(line, index, records, self.other)?;
-        line.number("component", u64::from(self.component))?;
-        line.key("differs")?;
-        put_differs(line, index, records, self)?;
-        line.end_object()
-    }
+fn put_read(
+    line: &mut Line,
+    index: &Index<'_>,
+    records: &[u32],
+    count: u64,
+    fault: &ReadFault,
+) -> Result<(), AllocError>
+    requires each { length records.now ≡ length index.now }
+    requires named { AreReadAt (calls_of index.now) fault.now }
+    ensures { OnOk result (line.new.writer.tokens ≡ line.old.writer.tokens ++ json_tokens (read_json records.now (calls_of index.now) count fault.now)) }
+{
+    begin_fault(line, index, records, count, fault.view)?;
+    line.key("other")?;
+    put_call(line, index, records, fault.other)?;
+    line.number("component", u64::from(fault.component))?;
+    line.key("differs")?;
+    put_differs(line, index, records, fault)?;
+    line.end_object()
 }
 
 // Adds the object of a component and a number, with the update that has both.
@@ -158,74 +135,93 @@ fn put_named(
     line.end_object()
 }
 
-impl Told for WriteFault {
-    ghost json = { write_json };
+fn put_write(
+    line: &mut Line,
+    index: &Index<'_>,
+    records: &[u32],
+    count: u64,
+    fault: &WriteFault,
+) -> Result<(), AllocError>
+    requires each { length records.now ≡ length index.now }
+    requires named { IsViewAt (calls_of index.now) fault.now.view }
+    ensures { OnOk result (line.new.writer.tokens ≡ line.old.writer.tokens ++ json_tokens (write_json records.now (calls_of index.now) count fault.now)) }
+{
+    begin_fault(line, index, records, count, fault.view)?;
+    line.key("misses")?;
+    put_named(
+        line,
+        index,
+        records,
+        fault.missed_component,
+        fault.missed_number,
+    )?;
+    line.key("shows")?;
+    put_named(
+        line,
+        index,
+        records,
+        fault.shown_component,
+        fault.shown_number,
+    )?;
+    line.end_object()
+}
 
-    ghost is_named = { λ calls f. IsViewAt calls f.view };
-
-    fn put(
-        &self,
-        line: &mut Line,
-        index: &Index<'_>,
-        records: &[u32],
-        count: u64,
-    ) -> Result<(), AllocError> {
-        begin_fault(line, index, records, count, self.view)?;
-        line.key("misses")?;
-        put_named(
-            line,
-            index,
-            records,
-            self.missed_component,
-            self.missed_number,
-        )?;
-        line.key("shows")?;
-        put_named(
-            line,
-            index,
-            records,
-            self.shown_component,
-            self.shown_number,
-        )?;
-        line.end_object()
+// Adds the object of a fault, which begins with the number of faults of its kind.
+fn put_fault(
+    line: &mut Line,
+    index: &Index<'_>,
+    records: &[u32],
+    count: u64,
+    fault: &Fault,
+) -> Result<(), AllocError>
+    requires each { length records.now ≡ length index.now }
+    requires named { IsNamed (calls_of index.now) fault.now }
+    ensures { OnOk result (line.new.writer.tokens ≡ line.old.writer.tokens ++ json_tokens (fault_json records.now (calls_of index.now) count fault.now)) }
+{
+    match fault {
+        Fault::Integrity(fault) => put_integrity(line, index, records, count, fault),
+        Fault::Proximity(fault) => put_proximity(line, index, records, count, fault),
+        Fault::Read(fault) => put_read(line, index, records, count, fault),
+        Fault::Write(fault) => put_write(line, index, records, count, fault),
     }
 }
 
 // Adds the first fault of a kind, or null if there is none.
-fn put_part<F: Told>(
+fn put_first(
     line: &mut Line,
     index: &Index<'_>,
     records: &[u32],
-    part: &Part<F>,
+    tally: &Tally,
+    kind: Kind,
 ) -> Result<(), AllocError>
     requires each { length records.now ≡ length index.now }
-    requires named { ForSome part.now.first (F.is_named (calls_of index.now)) }
-    ensures { OnOk result (line.new.writer.tokens ≡ line.old.writer.tokens ++ json_tokens (part_json (F.json records.now (calls_of index.now)) part.now)) }
+    requires tally { tally.now ≡ tally_of (calls_of index.now) (views_of (calls_of index.now)) }
+    ensures { OnOk result (line.new.writer.tokens ≡ line.old.writer.tokens ++ json_tokens (first_json records.now (calls_of index.now) tally.now kind)) }
 {
-    match part.first() {
-        Some(fault) => fault.put(line, index, records, part.count()),
+    match first_fault_of(index, tally, kind) {
+        Some(fault) => put_fault(line, index, records, tally.count(kind), &fault),
         None => line.null(),
     }
 }
 
-// Adds the name of a kind, and its first fault.
-fn put_kind<F: Told>(
+// Adds the word of a kind, and its first fault.
+fn put_kind(
     line: &mut Line,
     index: &Index<'_>,
     records: &[u32],
-    kind: &str,
-    part: &Part<F>,
+    tally: &Tally,
+    kind: Kind,
 ) -> Result<(), AllocError>
     requires each { length records.now ≡ length index.now }
-    requires named { ForSome part.now.first (F.is_named (calls_of index.now)) }
+    requires tally { tally.now ≡ tally_of (calls_of index.now) (views_of (calls_of index.now)) }
     ensures { OnOk result (line.new.writer.tokens ≡ line.old.writer.tokens
-        ++ (token.key kind.now ∷ json_tokens (part_json (F.json records.now (calls_of index.now)) part.now))) }
+        ++ (token.key (kind_word kind) ∷ json_tokens (first_json records.now (calls_of index.now) tally.now kind))) }
 {
-    line.key(kind)?;
-    put_part(line, index, records, part)
+    line.key(kind.word())?;
+    put_first(line, index, records, tally, kind)
 }
 
-/// Adds the first fault of each kind, each after the name of its kind.
+/// Adds the first fault of each kind, each after the word of its kind.
 pub(crate) fn put_faults(
     line: &mut Line,
     index: &Index<'_>,
@@ -236,10 +232,8 @@ pub(crate) fn put_faults(
     requires tally { tally.now ≡ tally_of (calls_of index.now) (views_of (calls_of index.now)) }
     ensures { OnOk result (line.new.writer.tokens ≡ line.old.writer.tokens ++ field_tokens (fault_fields records.now (calls_of index.now) tally.now)) }
 {
-    // what is known about the history of the index
-    let _events = index.event_count();
-    put_kind(line, index, records, "integrity", &tally.integrity)?;
-    put_kind(line, index, records, "proximity", &tally.proximity)?;
-    put_kind(line, index, records, "read", &tally.read)?;
-    put_kind(line, index, records, "write", &tally.write)
+    for kind in &Kind::ALL {
+        put_kind(line, index, records, tally, *kind)?;
+    }
+    Ok(())
 }

@@ -20,6 +20,11 @@ pub behind_front : (es : List Event) (t : Tally) (findings : List Line) →
     front_text es t ++ text_of findings ≡ text_of (report_lines es (has_no_local_fault t) (has_no_stale_view t) (has_no_fault t) findings)
 behind_front es t findings = sym (flat_map-append line_text (count_line es ∷ verdict_lines (has_no_local_fault t) (has_no_stale_view t) (has_no_fault t)) findings)
 
+-- the text of the lines of each
+pub text_of_each : {K : Type 0} (lines : K → List Line) (ks : List K) → flat_map (λ k. text_of (lines k)) ks ≡ text_of (flat_map lines ks)
+text_of_each lines [] = refl
+text_of_each lines (k ∷ ks) = ap (λ z. text_of (lines k) ++ z) (text_of_each lines ks) ∙ sym (flat_map-append line_text (lines k) (flat_map lines ks))
+
 pub lines_joined : (calls : List Call) (a b : List ℕ) → lines_text calls (a ++ b) ≡ lines_text calls a ++ lines_text calls b
 lines_joined calls a b =
     ap (λ z. text_of (map call_line z)) (map-append (call_numbered calls) a b)

@@ -1,25 +1,21 @@
 //! The lines of faults.
-ghost use Rattle.std.specs.Prelude.{◌≡◌, ◌++◌, ℕ, List, OnOk, codes, decimal};
-ghost use Rattle.snap_report.specs.Faults.{fault_lines, integrity_line, part_lines, proximity_line, read_line, side_word, write_line};
-ghost use Rattle.snap_report.specs.Lines.{Line, call_word, line_text, text_of, update_word};
+ghost use Rattle.std.specs.Prelude.{◌≡◌, ◌++◌, OnOk, codes, decimal};
+ghost use Rattle.snap_conditions.specs.Kinds.{kind_word};
+ghost use Rattle.snap_report.specs.Faults.{fault_line, fault_lines, integrity_line, kind_lines, proximity_line, read_line, write_line};
+ghost use Rattle.snap_report.specs.Lines.{call_word, line_text, text_of, update_word};
 
 use crate::words::{put_call, put_entry, put_number, put_update};
-use snap_conditions::{IntegrityFault, Part, ProximityFault, ReadFault, Side, Tally, WriteFault};
+use snap_conditions::{
+    Fault, IntegrityFault, Kind, ProximityFault, ReadFault, Side, Tally, WriteFault,
+};
 use std::alloc::AllocError;
 
-// A fault that has a line, which begins with the number of faults of its kind.
-trait Reported: Copy {
-    ghost line: { ℕ → Self → Line };
-
-    fn put(&self, out: &mut Vec<u8>, count: u64) -> Result<(), AllocError>
-        ensures { OnOk result (out.new.items ≡ out.old.items ++ line_text (line count self.now)) };
-}
-
-// Adds the number of faults of a kind, and the view of the first.
-fn put_first(out: &mut Vec<u8>, kind: &[u8], count: u64, view: u32) -> Result<(), AllocError>
-    ensures { OnOk result (out.new.items ≡ out.old.items ++ kind.now ++ decimal count ++ codes " first view " ++ call_word view) }
+// Adds the word of a kind, the number of its faults, and the view of the first.
+fn put_first(out: &mut Vec<u8>, kind: Kind, count: u64, view: u32) -> Result<(), AllocError>
+    ensures { OnOk result (out.new.items ≡ out.old.items ++ kind_word kind ++ codes " " ++ decimal count ++ codes " first view " ++ call_word view) }
 {
-    put_number(out, kind, count)?;
+    out.extend_from_slice(kind.word().as_bytes())?;
+    put_number(out, b" ", count)?;
     put_call(out, b" first view ", view)
 }
 
@@ -45,55 +41,59 @@ fn put_missed(out: &mut Vec<u8>, fault: &WriteFault) -> Result<(), AllocError>
     put_update(out, b" shows ", fault.shown_component, fault.shown_number)
 }
 
-impl Reported for IntegrityFault {
-    ghost line = { integrity_line };
-
-    fn put(&self, out: &mut Vec<u8>, count: u64) -> Result<(), AllocError> {
-        put_first(out, b"integrity ", count, self.view)?;
-        put_entry(out, b" entry ", &self.entry)?;
-        out.extend_from_slice(b"\n")
-    }
-}
-
-impl Reported for ProximityFault {
-    ghost line = { proximity_line };
-
-    fn put(&self, out: &mut Vec<u8>, count: u64) -> Result<(), AllocError> {
-        put_first(out, b"proximity ", count, self.view)?;
-        put_update(out, b" entry ", self.component, self.number)?;
-        match self.side {
-            Side::Old => out.extend_from_slice(b" old\n"),
-            Side::Early => out.extend_from_slice(b" early\n"),
-        }
-    }
-}
-
-impl Reported for ReadFault {
-    ghost line = { read_line };
-
-    fn put(&self, out: &mut Vec<u8>, count: u64) -> Result<(), AllocError> {
-        put_first(out, b"read ", count, self.view)?;
-        put_other(out, self)?;
-        out.extend_from_slice(b"\n")
-    }
-}
-
-impl Reported for WriteFault {
-    ghost line = { write_line };
-
-    fn put(&self, out: &mut Vec<u8>, count: u64) -> Result<(), AllocError> {
-        put_first(out, b"write ", count, self.view)?;
-        put_missed(out, self)?;
-        out.extend_from_slice(b"\n")
-    }
-}
-
-// Adds the line of one kind of fault, if there are such faults.
-fn put_part<F: Reported>(out: &mut Vec<u8>, part: &Part<F>) -> Result<(), AllocError>
-    ensures { OnOk result (out.new.items ≡ out.old.items ++ text_of (part_lines F.line part.now)) }
+fn put_integrity(out: &mut Vec<u8>, count: u64, fault: &IntegrityFault) -> Result<(), AllocError>
+    ensures { OnOk result (out.new.items ≡ out.old.items ++ line_text (integrity_line count fault.now)) }
 {
-    match part.first() {
-        Some(fault) => fault.put(out, part.count()),
+    put_first(out, Kind::Integrity, count, fault.view)?;
+    put_entry(out, b" entry ", &fault.entry)?;
+    out.extend_from_slice(b"\n")
+}
+
+fn put_proximity(out: &mut Vec<u8>, count: u64, fault: &ProximityFault) -> Result<(), AllocError>
+    ensures { OnOk result (out.new.items ≡ out.old.items ++ line_text (proximity_line count fault.now)) }
+{
+    put_first(out, Kind::Proximity, count, fault.view)?;
+    put_update(out, b" entry ", fault.component, fault.number)?;
+    match fault.side {
+        Side::Old => out.extend_from_slice(b" old\n"),
+        Side::Early => out.extend_from_slice(b" early\n"),
+    }
+}
+
+fn put_read(out: &mut Vec<u8>, count: u64, fault: &ReadFault) -> Result<(), AllocError>
+    ensures { OnOk result (out.new.items ≡ out.old.items ++ line_text (read_line count fault.now)) }
+{
+    put_first(out, Kind::Read, count, fault.view)?;
+    put_other(out, fault)?;
+    out.extend_from_slice(b"\n")
+}
+
+fn put_write(out: &mut Vec<u8>, count: u64, fault: &WriteFault) -> Result<(), AllocError>
+    ensures { OnOk result (out.new.items ≡ out.old.items ++ line_text (write_line count fault.now)) }
+{
+    put_first(out, Kind::Write, count, fault.view)?;
+    put_missed(out, fault)?;
+    out.extend_from_slice(b"\n")
+}
+
+// Adds the line of a fault, which has the number of faults of its kind.
+fn put_fault(out: &mut Vec<u8>, count: u64, fault: &Fault) -> Result<(), AllocError>
+    ensures { OnOk result (out.new.items ≡ out.old.items ++ line_text (fault_line count fault.now)) }
+{
+    match fault {
+        Fault::Integrity(fault) => put_integrity(out, count, fault),
+        Fault::Proximity(fault) => put_proximity(out, count, fault),
+        Fault::Read(fault) => put_read(out, count, fault),
+        Fault::Write(fault) => put_write(out, count, fault),
+    }
+}
+
+// Adds the line of a kind of fault, if there are such faults.
+fn put_kind(out: &mut Vec<u8>, tally: &Tally, kind: Kind) -> Result<(), AllocError>
+    ensures { OnOk result (out.new.items ≡ out.old.items ++ text_of (kind_lines tally.now kind)) }
+{
+    match tally.first(kind) {
+        Some(fault) => put_fault(out, tally.count(kind), &fault),
         None => Ok(()),
     }
 }
@@ -102,8 +102,8 @@ fn put_part<F: Reported>(out: &mut Vec<u8>, part: &Part<F>) -> Result<(), AllocE
 pub(crate) fn put_faults(out: &mut Vec<u8>, tally: &Tally) -> Result<(), AllocError>
     ensures { OnOk result (out.new.items ≡ out.old.items ++ text_of (fault_lines tally.now)) }
 {
-    put_part(out, &tally.integrity)?;
-    put_part(out, &tally.proximity)?;
-    put_part(out, &tally.read)?;
-    put_part(out, &tally.write)
+    for kind in &Kind::ALL {
+        put_kind(out, tally, *kind)?;
+    }
+    Ok(())
 }

@@ -11,8 +11,7 @@ use Rattle.snap_draw.specs.Marks.{marks_of}
 use Rattle.snap_draw.specs.Pieces.{AreEach, held_calls, pieces_of}
 use Rattle.snap_draw.specs.Timelines.{AreShapes, calls_drawn}
 use Rattle.snap_draw.specs.Window.{has_call}
-use Rattle.snap_explain.specs.declared.view.Entries.TheVariants.{OfFault}
-use Rattle.snap_explain.specs.Explanations.{IsExplanation, explanation, order_text}
+use Rattle.snap_explain.specs.Explanations.{IsExplanation, sentences_text}
 use Rattle.snap_theory.specs.Levels.{printed_order}
 use Rattle.snap_report.specs.Reports.{has_no_fault}
 use Rattle.snap_runs.specs.declared.markup.Said.{Said}
@@ -39,16 +38,13 @@ abbrev pub ArePartsOf : ℕ → Window → List Call → Tally → List Shapes �
 ArePartsOf held window calls t =
     AreEach (order_drawn calls t) (marks_of calls t) (pieces_of window.calls (held_calls held window (marks_of calls t) (map drawn_call calls)))
 
--- the verdict and the faults of an explanation: of an atomic history its first line alone, which has no call of the order
-abbrev pub sentences : List ℕ → List Call → Tally → List ℕ
-sentences records calls t = if has_no_fault t then order_text records [] else explanation OfFault records calls t
-
 -- what a picture has of the explanation of the history of these calls
 abbrev pub IsSaid : Said → List ℕ → List Call → List ℕ → Type 0
 IsSaid (Whole listed) records calls said = IsExplanation listed records calls said
-IsSaid Sentences records calls said = said ≡ sentences records calls (tally_of calls (views_of calls))
+IsSaid Sentences records calls said = said ≡ sentences_text records calls (tally_of calls (views_of calls))
 
--- the text is what the markup writes of the shapes of the history, its pieces, its order, and what it has of the explanation. The records are those of its events, and the sources the numbers of its calls in a run that it is made from
+-- the text is what the markup writes of the shapes of the history, its pieces, its order, and what it has of the explanation. The records
+-- are those of its events, and the sources the numbers of its calls in a run that it is made from
 pub record IsDrawing (window : Window) (held : ℕ) (says : Said) (Is : Writes) (events : List Event) (records sources out : List ℕ) : Type 0 where
   pub shapes : Shapes
   pub parts : List Shapes

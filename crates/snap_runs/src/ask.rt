@@ -47,9 +47,11 @@ pub fn answer_to<J: Judging, R: Read>(
 fn workers_for<'r, Rt: Threads + Sync>(rt: &'r Rt, question: &Question<'_>) -> Workers<'r, Rt> {
     let usual = Cutting::usual();
     let cutting = match question {
-        Question::Page(_, _) | Question::Svg(_, _) | Question::Lines(_) => {
-            Cutting::new(8, 4).unwrap_or(usual)
-        }
+        Question::ExplanationDrawn(_)
+        | Question::WitnessDrawn
+        | Question::Page(_, _)
+        | Question::Svg(_, _)
+        | Question::Lines(_) => Cutting::new(8, 4).unwrap_or(usual),
         _ => usual,
     };
     workers_of(rt, cutting)

@@ -13,7 +13,7 @@ use snap_check::{Judging, Status, status_of};
 use snap_conditions::Tally;
 use snap_core::History;
 use snap_draw::{Numbering, Picture, has_call, parts_of, shapes_of};
-use snap_explain::{Entries, explain};
+use snap_explain::{explain, sentences};
 use snap_index::Index;
 use std::alloc::{AllocError, Global};
 
@@ -26,9 +26,6 @@ fn numbers_of<'x>(order: Option<&'x [u32]>) -> &'x [u32]
         None => &[],
     }
 }
-
-// The first line of the explanation of an atomic history.
-const ATOMIC: &[u8] = b"atomic: in this order each view shows the latest updates before it\n";
 
 // What a picture has of the explanation of a history. The numbers of the printed order are given exactly if the tally has no fault.
 fn said_of(
@@ -47,12 +44,7 @@ fn said_of(
 {
     match said {
         Said::Whole(listed) => explain(alloc, index, tally, records, order, listed),
-        Said::Sentences => {
-            match order {
-                Some(_) => Vec::from_slice(alloc, ATOMIC),
-                None => explain(alloc, index, tally, records, order, Entries::OfFault),
-            }
-        }
+        Said::Sentences => sentences(alloc, index, tally, records),
     }
 }
 

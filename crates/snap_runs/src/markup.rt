@@ -56,7 +56,7 @@ pub(crate) trait Markup {
 }
 
 /// SVG alone, of a window, in the colours of a scheme.
-#[derive(Clone, Copy, Debug)]
+#[derive(Clone, Copy)]
 pub(crate) struct Svg {
     pub scheme: Scheme,
     pub window: Window,
@@ -64,20 +64,20 @@ pub(crate) struct Svg {
 
 /// A page with the SVG of a window in it, in the colours of a scheme. If none is given, it has those of the reader's system. Of a longer
 /// history it holds other calls too.
-#[derive(Clone, Copy, Debug)]
+#[derive(Clone, Copy)]
 pub(crate) struct Page {
     pub scheme: Option<Scheme>,
     pub window: Window,
 }
 
 /// Lines of characters, of a window.
-#[derive(Clone, Copy, Debug)]
+#[derive(Clone, Copy)]
 pub(crate) struct Lines {
     pub window: Window,
 }
 
 /// The explanation, which lists these entries of the views of a fault, with the usual lines of characters below it.
-#[derive(Clone, Copy, Debug)]
+#[derive(Clone, Copy)]
 pub(crate) struct Explained {
     pub listed: Entries,
 }

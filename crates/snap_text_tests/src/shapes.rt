@@ -1,6 +1,7 @@
 //! The shapes that are drawn for worked histories, against shapes worked out by hand.
 use snap_check::order_alone;
-use snap_draw::{Bar, Kind, Mark, Place, Shapes, Window, shapes_of};
+use snap_conditions::Kind;
+use snap_draw::{Bar, Mark, Place, Shapes, Window, shapes_of};
 use snap_index::Index;
 use snap_tally::tally_and_chain_alone;
 use snap_testing::worked::{ATOMIC_RUN, MISSED_UPDATE, NEW_THEN_OLD, NOTHING, SEEN_PENDING};
@@ -34,7 +35,7 @@ const WORKED: &[(&[Step<'static>], usize, Known)] = &[
                 (2, 2, 3, Some(4), None),
             ],
             6,
-            &[(Kind::Read, 1), (Kind::Read, 2)],
+            &[(Kind::Read, 1), (Kind::Read, 2), (Kind::Read, 0)],
         ),
     ),
     (

@@ -7,5 +7,7 @@ pub mod Excess
 pub mod Answered
 pub mod Tallied
 pub mod Reported
+pub mod FirstConcerned
+pub mod FirstFound
 pub mod ViewFaults
 pub mod Within

@@ -1,5 +1,5 @@
 -- The first faults of one completed view name completed views.
-use Rattle.std.proofs.Common.{◌≡◌, ◌∙◌, ◌≤◌, suc, ℕ, Bool, true, ◌||◌, ◌&&◌, List, [], ◌∷◌, ◌++◌, map, Option, Some, sym, ap, subst, inl, inr, arith}
+use Rattle.std.proofs.Common.{◌≡◌, ◌∙◌, ◌≤◌, suc, ℕ, Bool, true, ◌||◌, ◌&&◌, List, [], ◌∷◌, ◌++◌, map, Option, Some, refl, sym, ap, subst, inl, inr, arith}
 use Rattle.std.specs.List.{filter, flat_map}
 use Rattle.std.specs.Option.{ForSome}
 use Rattle.std.proofs.lemmas.Bool.{and_parts, or_cases}
@@ -8,7 +8,12 @@ use Rattle.snap_core.specs.Calls.{Call, calls_of, views_of, precedes, shown_numb
 use Rattle.snap_core.specs.Events.{IsBoundedHistory, event_cap}
 use Rattle.snap_core.specs.Regular.{IsViewOf}
 use Rattle.snap_core.proofs.Lists.{In, In-from_filter, any_to}
+use Rattle.snap_conditions.specs.declared.fault.Fault.{Fault}
+use Rattle.snap_conditions.specs.declared.fault.Fault.TheVariants as faults
 use Rattle.snap_conditions.specs.declared.fault.IntegrityFault.{IntegrityFault}
+use Rattle.snap_conditions.specs.declared.fault.Kind.{Kind}
+use Rattle.snap_conditions.specs.declared.fault.Kind.TheVariants.{Integrity, Proximity, Read, Write}
+use Rattle.snap_conditions.specs.Kinds.{first_in}
 use Rattle.snap_conditions.specs.declared.fault.ProximityFault.{ProximityFault}
 use Rattle.snap_conditions.specs.declared.fault.ReadFault.{ReadFault}
 use Rattle.snap_conditions.specs.declared.fault.WriteFault.{WriteFault}
@@ -17,6 +22,7 @@ use Rattle.snap_conditions.specs.Tally.{reported_integrity, reported_proximity, 
 use Rattle.snap_theory.specs.Faults.{components, early_fault, first_of, integrity_fault, integrity_faults, listed, old_fault, proximity_faults, read_fault, read_faults, write_fault, write_faults}
 use Rattle.snap_theory.proofs.FaultLists.{from_views}
 use Rattle.snap_index.proofs.IndexedCalls.{mapped_some}
+use Rattle.snap_witness.specs.Concerned.{IsNamed}
 use Rattle.snap_witness.specs.Places.{AreReadAt, IsViewAt}
 use Rattle.snap_witness.proofs.Named.{few_updates, view_at}
 
@@ -84,3 +90,18 @@ write_of_view es r v t own first e = λ f is.
     let m = mapped_some reported_write (first_of (write_faults (calls_of es) (r ∷ []))) f (sym (ap (λ (z : Tally). z.write.first) own) ∙ sym e ∙ is) in
     let from = first_missed r (λ j. filter (write_fault (calls_of es) r j) (listed r)) components m.from m.is in
     subst (λ (z : WriteFault). IsViewAt (calls_of es) z.view) m.to (same_view es r m.from.0 v from)
+
+-- the first fault of a view names completed views
+pub of_view : (es : List Event) → IsBoundedHistory es → (r : Call) → IsViewOf (calls_of es) r → (t : Tally) → t ≡ tally_of (calls_of es) (r ∷ []) → (kind : Kind) (first : Option Fault) → first ≡ first_in kind t → ForSome first (IsNamed (calls_of es))
+of_view es h r v t own Integrity first e = λ f is.
+    let m = mapped_some faults.Integrity t.integrity.first f (sym e ∙ is) in
+    subst (IsNamed (calls_of es)) m.to (integrity_of_view es r v t own t.integrity.first refl m.from m.is)
+of_view es h r v t own Proximity first e = λ f is.
+    let m = mapped_some faults.Proximity t.proximity.first f (sym e ∙ is) in
+    subst (IsNamed (calls_of es)) m.to (proximity_of_view es h r v t own t.proximity.first refl m.from m.is)
+of_view es h r v t own Read first e = λ f is.
+    let m = mapped_some faults.Read t.read.first f (sym e ∙ is) in
+    subst (IsNamed (calls_of es)) m.to (read_of_view es r v t own t.read.first refl m.from m.is)
+of_view es h r v t own Write first e = λ f is.
+    let m = mapped_some faults.Write t.write.first f (sym e ∙ is) in
+    subst (IsNamed (calls_of es)) m.to (write_of_view es r v t own t.write.first refl m.from m.is)

@@ -2,7 +2,12 @@
 #![tactic(auto)]
 
 mod calls;
+mod fault_calls;
 mod finding;
 mod keeping;
 
-pub use finding::{kept_calls, least_exceeding, read_updates, side_number, view_numbered, witness};
+pub use fault_calls::{
+    FaultCalls, concerned, first_fault_of, least_exceeding, read_updates, side_number,
+    view_numbered,
+};
+pub use finding::{kept_calls, witness};

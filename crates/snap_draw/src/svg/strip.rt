@@ -1,10 +1,10 @@
 //! The strip above a picture: where the window is in the run, and where the first faults are.
 use super::parts::put_parts;
 use super::scale::{LEFT, right_of};
-use crate::kinds::{KINDS, word_of};
-use crate::marks::{Kind, Mark};
+use crate::marks::Mark;
 use crate::shapes::{Bar, Shapes};
 use crate::words::record_at;
+use snap_conditions::Kind;
 use snap_index::Index;
 use std::alloc::AllocError;
 
@@ -89,7 +89,7 @@ fn put_window(
 // Adds a mark of a kind.
 fn put_tick(out: &mut Vec<u8>, kind: Kind, x: u64) -> Result<(), AllocError> {
     out.extend_from_slice(b"<path class=\"tick fault-")?;
-    out.extend_from_slice(word_of(kind))?;
+    out.extend_from_slice(kind.word().as_bytes())?;
     put_parts(
         out,
         &[(b"\" d=\"M ", x)],
@@ -104,7 +104,7 @@ fn put_ticks(
     marks: &[Mark],
     width: u64,
 ) -> Result<(), AllocError> {
-    for kind in &KINDS {
+    for kind in &Kind::ALL {
         if let Some(place) = first_of(index, marks, *kind) {
             put_tick(out, *kind, along(place, index.event_count(), width))?;
         }

@@ -1,7 +1,19 @@
-use Rattle.snap_witness.proofs.Reported.{proximity_is_named}
+use Rattle.std.proofs.Common.{◌≤◌, ◌∙◌, [], ap, arith, length}
+use Rattle.std.specs.List.{flat_map}
+use Rattle.std.proofs.lemmas.List.{take_all}
+use Rattle.snap_core.specs.Calls.{calls_of}
+use Rattle.snap_conditions.specs.Kinds.{kinds}
+use Rattle.snap_report.proofs.Pieces.{kinds_more}
+use Rattle.snap_draw.specs.Marks.{kind_marks, marks_of}
 use Rattle.snap_draw.proofs.marks.marks.Goals as goal
 
-pub mark_proximity-requires : goal.mark_proximity-requires
-mark_proximity-requires c =
-    let named = proximity_is_named c.args.index.now c.event_count-events.ensures.kept c.args.tally.now c.requires c.first-2.result c.first-2.ensures.first in
-    λ f is. (named f is).1
+pub loop-kind-preserved : goal.loop-kind-preserved
+loop-kind-preserved c =
+    kinds_more (kind_marks (calls_of c.args.index.now) c.args.tally.now) c.loop-kind.kind-index [] _ _
+    (omega (arith, c.loop-kind-test.true)) c.loop-kind.invariant c.in_ok-mark_kind.ensures
+
+pub returns : goal.returns
+unfolding marks_of
+returns c =
+    let all : length kinds ≤ c.loop-kind.kind-index = omega (arith, c.loop-kind-test.false) in
+    c.loop-kind.invariant ∙ ap (λ ks. flat_map (kind_marks (calls_of c.args.index.now) c.args.tally.now) ks) (take_all c.loop-kind.kind-index kinds all)

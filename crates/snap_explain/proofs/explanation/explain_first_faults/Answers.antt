@@ -2,7 +2,6 @@ use Rattle.std.proofs.Common.{◌++◌, ◌∙◌, ap, refl, sym}
 use Rattle.std.proofs.lemmas.Result.{IfOk-weaker}
 use Rattle.snap_core.specs.Calls.{calls_of, views_of}
 use Rattle.snap_conditions.specs.Tally.{tally_of}
-use Rattle.snap_report.specs.Reports.{has_no_local_fault}
 use Rattle.snap_explain.specs.Explanations.{long_explanation, verdict_text}
 use Rattle.snap_explain.specs.FirstFaults.{first_faults_text}
 use Rattle.snap_explain.proofs.FirstFaults.{long_of_faulty, long_with_one}
@@ -22,5 +21,5 @@ returns c =
     let t = c.args.tally.now in
     let told = first_faults_text c.args.most c.args.listed records calls in
     c.in_ok-put_first_faults.ensures ∙ ap (λ out. out ++ told) c.in_ok-put_verdict.ensures
-    ∙ ap (λ out. out ++ verdict_text (has_no_local_fault t) ++ told) c.new-out.ensures.items
+    ∙ ap (λ out. out ++ verdict_text t ++ told) c.new-out.ensures.items
     ∙ long_of_faulty c.args.most c.args.listed records calls t c.requires.faulty ∙ ap (long_explanation c.args.most c.args.listed records calls) c.requires.tally

@@ -10,6 +10,6 @@ pub returns-in_ok-kept-in-Some : goal.returns-in_ok-kept-in-Some
 returns-in_ok-kept-in-Some c =
     let es = c.args.index.now in
     let first = first_fault (calls_of es) in
-    let n = subst (λ o. NamesFirst es (option_map (λ choice. (choice.views.items, choice.updates.items)) o)) c.in-Some.is c.in_ok-choice.ensures in
+    let n = subst (λ o. NamesFirst es (option_map (λ calls. (calls.views.items, calls.updates.items)) o)) c.in-Some.is c.in_ok-calls.ensures in
     let borrowed = names_same es first _ c.deref.result.now _ c.deref-in-Some.result.now c.deref.ensures.value c.deref-in-Some.ensures.value n in
     ap Some c.in_ok-kept-in-Some.ensures ∙ sym (named_numbers es first c.deref.result.now c.deref-in-Some.result.now borrowed)

@@ -1,0 +1,23 @@
+use Rattle.std.proofs.Common.{◌++◌, [], ◌∷◌, codes, decimal}
+use Rattle.json.specs.Token as token
+use Rattle.json.specs.Tree.{json_tokens}
+use Rattle.snap_core.specs.Calls.{calls_of}
+use Rattle.snap_report.proofs.Pieces.{same_text}
+use Rattle.snap_json.specs.Differs.{differs_json}
+use Rattle.snap_json.specs.Faults.{numbered_json, read_json}
+use Rattle.snap_json.proofs.Values.{seven_joined}
+use Rattle.snap_json.proofs.faults.put_read.Goals as goal
+
+pub returns : goal.returns
+unfolding read_json
+returns c =
+    let old = c.args.line.now.writer.tokens in
+    let calls = calls_of c.args.index.now in
+    let records = c.args.records.now in
+    let f = c.args.fault.now in
+    same_text c.end_object.result c.end_object.new.self.writer.tokens _ (old ++ json_tokens (read_json records calls c.args.count f))
+    (rw (c.in_ok-put_differs.ensures, c.in_ok-key-2.ensures, c.in_ok-number.ensures, c.in_ok-put_call.ensures, c.in_ok-key.ensures, c.in_ok-begin_fault.ensures, c.from.ensures)
+    (seven_joined old (token.begin_object ∷ token.key (codes "count") ∷ token.number (decimal c.args.count) ∷ token.key (codes "view") ∷ json_tokens (numbered_json records calls f.view))
+    (token.key (codes "other") ∷ []) (json_tokens (numbered_json records calls f.other)) (token.key (codes "component") ∷ token.number (decimal f.component) ∷ [])
+    (token.key (codes "differs") ∷ []) (json_tokens (differs_json records calls f)) (token.end_object ∷ [])))
+    c.end_object.ensures
