@@ -1,6 +1,6 @@
 //! What a running program keeps of a desk.
 /// What the running program keeps of a desk.
-#[derive(Clone, Copy, Debug)]
+#[derive(Clone, Copy)]
 pub(crate) struct DeskState {
     /// The number of ticks that it drew.
     pub ticks: u32,

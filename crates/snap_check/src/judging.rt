@@ -75,7 +75,7 @@ pub trait Judging {
 }
 
 /// The calling thread alone, which needs no runtime.
-#[derive(Clone, Copy, Debug)]
+#[derive(Clone, Copy)]
 pub struct Alone;
 
 impl Judging for Alone {

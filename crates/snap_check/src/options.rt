@@ -6,7 +6,7 @@ use snap_core::Limit;
 use snap_threads::Cutting;
 
 /// What a check is asked for besides the report of a history.
-#[derive(Clone, Copy, Debug, PartialEq, Eq)]
+#[derive(Clone, Copy)]
 pub struct CheckOptions {
     /// Whether only the lines of the verdicts of a history's report are written.
     pub quiet: bool,

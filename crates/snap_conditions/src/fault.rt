@@ -84,7 +84,7 @@ pub struct WriteFault {
 }
 
 /// A fault of some kind.
-#[derive(Clone, Copy, PartialEq, Eq, Debug)]
+#[derive(Clone, Copy)]
 pub enum Fault {
     Integrity(IntegrityFault),
     Proximity(ProximityFault),

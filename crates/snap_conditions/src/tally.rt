@@ -47,12 +47,12 @@ impl Tally {
     pub fn first(&self, kind: Kind) -> Option<Fault>
         ensures { result ≡ first_in kind self.now }
     {
-        match kind {
-            Kind::Integrity => self.integrity.first().map(Fault::Integrity),
-            Kind::Proximity => self.proximity.first().map(Fault::Proximity),
-            Kind::Read => self.read.first().map(Fault::Read),
-            Kind::Write => self.write.first().map(Fault::Write),
-        }
+        Some(match kind {
+            Kind::Integrity => Fault::Integrity(self.integrity.first()?),
+            Kind::Proximity => Fault::Proximity(self.proximity.first()?),
+            Kind::Read => Fault::Read(self.read.first()?),
+            Kind::Write => Fault::Write(self.write.first()?),
+        })
     }
 }
 

@@ -7,7 +7,7 @@ use snap_index::{Call, Index};
 use std::alloc::{AllocError, Global};
 
 /// A call with its number, which counts the begins before its own.
-#[derive(Clone, Copy, PartialEq, Eq, Debug)]
+#[derive(Clone, Copy)]
 pub struct Drawn {
     pub number: u32,
     pub call: Call,

@@ -12,7 +12,7 @@ use snap_witness::{concerned, first_fault_of};
 use std::alloc::{AllocError, Global};
 
 /// A call of the first fault of a kind, by its number.
-#[derive(Clone, Copy, PartialEq, Eq, Debug)]
+#[derive(Clone, Copy)]
 pub struct Mark {
     pub kind: Kind,
     pub call: u32,

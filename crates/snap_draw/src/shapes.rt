@@ -17,7 +17,7 @@ const PROCESS_COUNT: u32 = 65536;
 
 /// The bar of a call: its lane, the columns of its begin and its end, and its place in the printed order, counted from 0. A
 /// pending call has no end.
-#[derive(Clone, Copy, PartialEq, Eq, Debug)]
+#[derive(Clone, Copy)]
 pub struct Bar {
     pub drawn: Drawn,
     pub lane: usize,

@@ -11,7 +11,7 @@ use std::alloc::{AllocError, Global};
 pub const PAGE_CALLS: usize = 60;
 
 /// Which calls are drawn of a history that has more calls than a window. Calls are counted from 0.
-#[derive(Clone, Copy, PartialEq, Eq, Debug)]
+#[derive(Clone, Copy)]
 pub enum Place {
     /// Those of the first faults, and the first that overlap one of these. If there is no fault, the first calls.
     Faults,
@@ -22,7 +22,7 @@ pub enum Place {
 }
 
 /// A part of a history: the most calls that it has, and which they are.
-#[derive(Clone, Copy, PartialEq, Eq, Debug)]
+#[derive(Clone, Copy)]
 pub struct Window {
     pub calls: usize,
     pub place: Place,

@@ -8,7 +8,7 @@ use snap_names::put_shown;
 use std::alloc::{AllocError, Global};
 
 /// How the case of a text ends that does not pass.
-#[derive(Clone, Copy, Debug, PartialEq, Eq)]
+#[derive(Clone, Copy)]
 pub enum Ending {
     /// The text was judged, and did not pass.
     Failure,

@@ -18,7 +18,7 @@ use std::alloc::AllocError;
 pub const MOST_ENTRIES: usize = 16;
 
 /// Which entries of the views of a fault are listed.
-#[derive(Clone, Copy, Debug, PartialEq, Eq)]
+#[derive(Clone, Copy)]
 pub enum Entries {
     /// Of a view with more than 16 those of the fault's components, and the number of the others. All of a smaller one.
     OfFault,

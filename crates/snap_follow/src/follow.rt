@@ -30,14 +30,14 @@ use snap_windows::{Verdict, WindowJudge};
 use std::alloc::{AllocError, Global};
 
 /// A window that has ended: what it is, from what the windows before it left.
-#[derive(Clone, Copy, Debug)]
+#[derive(Clone, Copy)]
 pub struct Window {
     pub verdict: Verdict,
     pub span: Span,
 }
 
 /// Why a recording is followed no further.
-#[derive(Clone, Copy, Debug)]
+#[derive(Clone, Copy)]
 pub enum Ended {
     /// A record is not part of a history, or a window has no room for it.
     Refused { place: Place, fault: TextFault },

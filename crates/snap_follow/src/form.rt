@@ -7,7 +7,7 @@ use snap_csv::{is_header_line, is_stamped_header_line};
 use std::alloc::{AllocError, Global};
 
 /// The header of the texts of a recording: without stamps, or with them.
-#[derive(Clone, Copy, Debug)]
+#[derive(Clone, Copy)]
 pub enum Form {
     Plain,
     Stamped,

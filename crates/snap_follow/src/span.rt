@@ -7,14 +7,14 @@ use snap_core::{Entry, Event};
 
 /// The place of a record: the number of its text in the recording, from 0, and its own number in that text, from 1. The header is
 /// record 1.
-#[derive(Clone, Copy, Debug)]
+#[derive(Clone, Copy)]
 pub struct Place {
     pub text: usize,
     pub number: u64,
 }
 
 /// The events of a window.
-#[derive(Clone, Copy, Debug)]
+#[derive(Clone, Copy)]
 pub struct Span {
     /// The numbers of its events and of its completed views.
     pub events: u64,

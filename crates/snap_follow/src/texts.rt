@@ -7,7 +7,7 @@ use std::alloc::{AllocError, Global};
 use std::io::Read;
 
 /// Why no more text comes.
-#[derive(Clone, Copy, Debug)]
+#[derive(Clone, Copy)]
 pub enum Reason {
     /// The text can't be opened.
     Unopened(Trouble),
@@ -22,14 +22,14 @@ pub enum Reason {
 }
 
 /// A name at which a recording ends too soon.
-#[derive(Debug, Drop)]
+#[derive(Drop)]
 pub struct Lost {
     pub name: Vec<u8>,
     pub reason: Reason,
 }
 
 /// Why a recording has no next text.
-#[derive(Debug, Drop)]
+#[derive(Drop)]
 pub enum TextsFault {
     /// The recording ends at this name, for this reason.
     Lost(Lost),

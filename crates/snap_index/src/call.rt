@@ -18,7 +18,7 @@ pub struct Call {
 }
 
 /// What an update writes, with the places, counted from 0, of the events that begin and end it. A pending update has no end.
-#[derive(Clone, Copy, PartialEq, Eq, Debug)]
+#[derive(Clone, Copy)]
 pub struct Write {
     /// The call number of the update, from 0.
     pub call: u32,

@@ -5,7 +5,7 @@ ghost use Rattle.std.specs.Global.{Global, Vec};
 use std::alloc::{AllocError, Global};
 
 /// What a folder has under a name.
-#[derive(Clone, Copy, Debug, PartialEq, Eq)]
+#[derive(Clone, Copy, PartialEq, Eq)]
 pub enum Kind {
     /// A folder.
     Folder,
@@ -20,7 +20,7 @@ pub enum Kind {
 }
 
 /// A name in a folder, and what is there under it.
-#[derive(Debug, Drop)]
+#[derive(Drop)]
 pub struct Entry {
     pub name: Vec<u8>,
     pub kind: Kind,

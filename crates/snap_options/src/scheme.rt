@@ -1,7 +1,7 @@
 //! The colours of a picture: dark ink on a light ground, or light ink on a dark one.
 
 /// The colours of a picture.
-#[derive(Clone, Copy, Debug, PartialEq, Eq)]
+#[derive(Clone, Copy, PartialEq, Eq)]
 pub enum Scheme {
     /// Dark ink on a light ground, as on paper.
     Light,

@@ -17,8 +17,8 @@ fn a_call_of_a_witness_has_its_number_in_the_run(rt: HostRuntime) -> Result<(), 
 regular, and not atomic
 
 record  2               3               4               5               6
-p0      [1 update 0:1:1234567 ==========================================================>
-        call 2 of the run
+p0      [!1 update 0:1:1234567 =========================================================>
+        read, call 2 of the run
 p1                      (!2 view 0:1:12…)
                         read, call 3 of the run
 p2                                                      (!3 view -------)

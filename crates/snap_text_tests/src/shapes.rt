@@ -128,8 +128,8 @@ fn are_marks(marks: &[Mark], known: &[(Kind, u32)]) -> bool {
 fn expect_shapes(rt: &impl Abort, shapes: &Shapes, known: &Known) {
     let (lanes, bars, columns, marks) = *known;
     assert!(rt; shapes.lanes.as_slice() == lanes && shapes.columns == columns);
-    assert!(rt; are_bars(&shapes.bars, bars), "{:?}", shapes.bars);
-    assert!(rt; are_marks(&shapes.marks, marks), "{:?}", shapes.marks);
+    assert!(rt; are_bars(&shapes.bars, bars));
+    assert!(rt; are_marks(&shapes.marks, marks));
 }
 
 // An index has these shapes.

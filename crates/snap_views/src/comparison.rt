@@ -12,7 +12,7 @@ use snap_index::Index;
 use std::alloc::{AllocError, Global};
 
 /// How the completed views of a history compare.
-#[derive(Debug, Drop)]
+#[derive(Drop)]
 pub enum ViewOrder {
     /// No two views are a read fault.
     Faultless(ViewChain),

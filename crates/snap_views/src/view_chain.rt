@@ -15,7 +15,7 @@ use snap_index::Index;
 use std::alloc::{AllocError, Global};
 
 /// The completed views of a history as a chain, in which each shows no less than those before it.
-#[derive(Debug, Drop)]
+#[derive(Drop)]
 pub struct ViewChain {
     /// The places of the views by call number, counted from 0, sorted by the sums of the numbers that they show and then by place.
     pub places: Vec<u32>,

@@ -24,7 +24,7 @@ use snap_tally::tally_and_chain_alone;
 use std::alloc::{AllocError, Global};
 
 /// Whether events are regular, and atomic. For a window, this is from what the windows before it left.
-#[derive(Clone, Copy, Debug, PartialEq, Eq)]
+#[derive(Clone, Copy)]
 pub struct Verdict {
     pub regular: bool,
     pub atomic: bool,

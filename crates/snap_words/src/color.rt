@@ -7,7 +7,7 @@ ghost use Rattle.snap_words.specs.declared.color.Color.{Color};
 use clap::ArgMatches;
 
 /// When the verdicts of reports have colours.
-#[derive(Clone, Copy, Debug, PartialEq, Eq)]
+#[derive(Clone, Copy)]
 pub enum Color {
     /// If standard output is a terminal, and the environment does not ask for none.
     Auto,

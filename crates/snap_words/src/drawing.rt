@@ -13,7 +13,7 @@ use clap::ArgMatches;
 use snap_options::{LINE_CALLS, MOST_CALLS, Scheme};
 
 /// The form of a picture.
-#[derive(Clone, Copy, PartialEq, Eq, Debug)]
+#[derive(Clone, Copy, PartialEq, Eq)]
 pub enum Form {
     /// A page for a browser, in the colours of a scheme, or if none is given in those of the reader's system.
     Page(Option<Scheme>),
@@ -24,7 +24,7 @@ pub enum Form {
 }
 
 /// Where the calls are that are drawn. Calls are counted from 1.
-#[derive(Clone, Copy, PartialEq, Eq, Debug)]
+#[derive(Clone, Copy)]
 pub enum Place {
     /// At the first faults, or at the begin if there is no fault.
     Faults,
@@ -35,7 +35,7 @@ pub enum Place {
 }
 
 /// Which calls of a history are drawn: how many, which is the usual number of a form if it is absent, and where.
-#[derive(Clone, Copy, PartialEq, Eq, Debug)]
+#[derive(Clone, Copy)]
 pub struct Part {
     pub calls: Option<u32>,
     pub place: Place,

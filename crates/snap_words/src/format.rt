@@ -8,7 +8,7 @@ ghost use Rattle.snap_words.specs.declared.format.Format.TheVariants.{Plain};
 use clap::ArgMatches;
 
 /// The format of the answers of a check.
-#[derive(Clone, Copy, Debug, PartialEq, Eq)]
+#[derive(Clone, Copy)]
 pub enum Format {
     /// Reports.
     Plain,

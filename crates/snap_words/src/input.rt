@@ -9,7 +9,7 @@ use clap::ArgMatches;
 use std::alloc::{AllocError, Global};
 
 /// The names of the texts of a check. If there are none at all, the text is standard input.
-#[derive(Debug, Drop)]
+#[derive(Drop)]
 pub struct Input {
     /// The files among the words; `-` is standard input.
     pub files: Vec<Vec<u8>>,

@@ -8,7 +8,7 @@ use crate::option_values::flag_in;
 use clap::ArgMatches;
 
 /// What is written of a history that is cut down to a witness.
-#[derive(Clone, Copy, PartialEq, Eq, Debug)]
+#[derive(Clone, Copy, PartialEq, Eq)]
 pub enum Shrunk {
     /// The witness.
     Witness,
