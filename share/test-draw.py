@@ -378,7 +378,7 @@ def try_other_tests(count, program, browser):
         with contextlib.redirect_stdout(io.StringIO()):
             try_picture(found, what, wrong, history, report, said)
         count.expect(wrong != text and found.failed > 0, f"a picture is not found wrong where {what}")
-    text = draw(program, TOP / "examples/new-old-inversion.csv", "--svg")[1]
+    text = draw(program, TOP / "examples/recorded-1.csv", "--svg")[1]
     for what, (old, new) in WRONG_COLOURS.items() if browser else ():
         wrong, found = re.sub(old, new, text, count=1, flags=re.S), Count()
         with contextlib.redirect_stdout(io.StringIO()):
@@ -442,9 +442,10 @@ def try_longest(count, program):
     count.same(status, 1, "the longest history: status")
     count.same(marked, {"1", "2", str(last)}, "the longest history: calls of the fault")
     count.expect(len(picture.ids("call-")) <= MOST_CALLS, f"the longest history: {len(picture.ids('call-'))} calls are drawn")
-    drawn = [bar.label.split()[0] for bar in lines.bars]
-    count.expect(len(drawn) <= MOST_IN_LINES and {"1", "2", str(last)} <= set(drawn), f"the longest history: by lines {drawn} are drawn")
-    count.same(lines.left_out, (len(drawn), last - len(drawn)), "the longest history: calls that the lines leave out")
+    cut = {line.split()[1] for line in lines.cut}
+    drawn = {bar.label.split()[0] for bar in lines.bars} | cut
+    count.expect(len(lines.bars) <= MOST_IN_LINES and {"1", "2", str(last)} <= drawn, f"the longest history: by lines {drawn} are drawn")
+    count.same(lines.left_out, (len(lines.bars), last - len(lines.bars)), "the longest history: calls that the lines leave out")
     count.expect(len(page.encode()) <= MOST_BYTES, f"the longest history: its page has {len(page.encode())} bytes")
 
 

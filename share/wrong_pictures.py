@@ -26,6 +26,7 @@ WRONG = {
 
 # The same in the picture of atomic-run, which has an order.
 WRONG_ORDERS = {
+    "a call of no fault is marked": (r'call update" data-id="call-1"', 'call update fault-read" data-id="call-1"'),
     "no ground is behind the labels": (r'<g data-id="backs".*?</g>', ""),
     "no ground is behind one label": (r'(<g data-id="backs"[^>]*>)<rect[^>]*/>', r"\1"),
     "no ground is behind one place": (r'<rect[^>]*/></g>\n<g class="call', '</g>\n<g class="call'),
@@ -33,7 +34,7 @@ WRONG_ORDERS = {
     "a place is not in its bar": (r"L 248 235", "L 248 177"),
 }
 
-# The colours of new-old-inversion that no other program sees, or sees otherwise than the browser.
+# The colours of recorded-1 that no other program sees, or sees otherwise than the browser.
 WRONG_COLOURS = {
     "a bar has its colour from a style": (r' fill="#2c69a8" stroke="#2c69a8"', ' style="fill: var(--none, #2c69a8)"'),
     "a sentence has its colour from a style": (r'(<g class="mark"[^>]*) fill="#b3261e"', r'\1 style="fill: var(--none, #b3261e)"'),
