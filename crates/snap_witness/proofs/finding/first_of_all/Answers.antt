@@ -1,4 +1,4 @@
-use Rattle.std.proofs.Common.{◌≡◌, ◌<◌, ◌∙◌, arith, length, sym}
+use Rattle.std.proofs.Common.{◌<◌, ◌∙◌, arith, length, sym}
 use Rattle.snap_conditions.specs.declared.fault.Kind.TheVariants.{Integrity}
 use Rattle.snap_conditions.specs.Kinds.{first_in, kinds}
 use Rattle.snap_witness.proofs.FirstFound.{found_next, none_next}
