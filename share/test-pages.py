@@ -234,10 +234,14 @@ def try_api(count):
 
 
 def unnamed_cases(guide):
-    """The files that have a case for each kind of fault and that a guide does not name, and those that it names and that have none."""
-    files = (it for it in TOP.glob("crates/*/src/**/*.rt") if not re.search(r"crates/\w+_tests/|/snap_sweep/", str(it)))
-    have = {str(it.relative_to(TOP)) for it in files if re.search(r"\b(Kind|Fault)::Integrity\b|= integrity_part\(", it.read_text(encoding="utf-8"))}
-    return have ^ set(re.findall(r"`(crates/\S+\.rt)`", guide))
+    """The files that have a case for each kind of fault and that a guide does not name, and those that it names and that have none. Tests
+    do not count."""
+    files = [it for it in TOP.glob("crates/*/src/**/*.rt") if not re.search(r"crates/\w+_tests/|/snap_sweep/", str(it))]
+    have = {it for it in files if re.search(r"\b(Kind|Fault)::Integrity\b|= integrity_part\(", it.read_text(encoding="utf-8"))}
+    readers = [it for folder in ("ffi/cpp", "ffi/go", "ffi/python", "ffi/rust/snapjudge/src", "examples") for it in (TOP / folder).glob("**/*.*")]
+    readers = [it for it in readers if it.suffix in (".hpp", ".cpp", ".go", ".py", ".rs") and not re.search(r"test|answers", it.name)]
+    have |= {it for it in readers if re.search(r"\bproximity\b", it.read_text(encoding="utf-8"))}
+    return {str(it.relative_to(TOP)) for it in have} ^ set(re.findall(r"`(crates/\S+\.rt|(?:ffi|examples)/\S+)`", guide))
 
 
 def kinds_guide():
@@ -246,7 +250,7 @@ def kinds_guide():
 
 
 def try_kinds(count):
-    """The guide to a new kind of fault names all files of the product that have a case for each kind."""
+    """The guide to a new kind of fault names all files of the product and of its readers that have a case for each kind."""
     for file in unnamed_cases(kinds_guide()):
         count.expect(False, f"docs/ARCHITECTURE.md, a new kind of fault: {file} has a case for each kind and is not named, or the other way")
     count.expect(True, "")
