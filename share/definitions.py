@@ -65,8 +65,9 @@ SHOWN = [
     ),
     (
         "7. Atomic",
-        "All calls at once: linearizable, in the sense of Herlihy and Wing.",
-        [("crates/snap_core/specs/Orders.antt", it) for it in ("last_written", "IsLegalOrder", "IsAtomic")],
+        "All calls at once: linearizable, in the sense of Herlihy and Wing. Here each component has one writer.",
+        [("crates/snap_core/specs/Orders.antt", it) for it in ("last_written", "IsLegalOrder", "IsAtomic")]
+        + [("crates/snap_theory/specs/Versions.antt", it) for it in ("IsLegalBy", "IsAtomicBy")],
     ),
 ]
 

@@ -4,6 +4,7 @@ _snapjudge() {
   case $before in
     --pieces | --workers | --views | --events | --window | --idle | --late | --rounds | --seed | --calls | --from | --around | --faults) return ;;
     --color) mapfile -t COMPREPLY < <(compgen -W 'auto always never' -- "$word"); return ;;
+    --writers) mapfile -t COMPREPLY < <(compgen -W 'one many' -- "$word"); return ;;
     --files-from) mapfile -t COMPREPLY < <(compgen -f -- "$word"); return ;;
     -r | --recursive) mapfile -t COMPREPLY < <(compgen -d -- "$word"); return ;;
     --format)
@@ -16,11 +17,11 @@ _snapjudge() {
   case ${COMP_WORDS[1]} in
     check | shrink | explain | draw | stats)
       words=--help
-      [[ ${COMP_WORDS[1]} != check ]] || words='--pieces --workers --files-from --null --recursive --quiet -q --views --events --format --summary --follow --window --idle --late --no-progress --color --help'
-      [[ ${COMP_WORDS[1]} != draw ]] || words='--svg --text --light --dark --calls --from --around --events --help'
-      [[ ${COMP_WORDS[1]} != stats ]] || words='--format --events --help'
-      [[ ${COMP_WORDS[1]} != shrink ]] || words='--draw --map --events --help'
-      [[ ${COMP_WORDS[1]} != explain ]] || words='--draw --all --faults --events --help'
+      [[ ${COMP_WORDS[1]} != check ]] || words='--pieces --workers --files-from --null --recursive --quiet -q --views --events --writers --format --summary --follow --window --idle --late --no-progress --color --help'
+      [[ ${COMP_WORDS[1]} != draw ]] || words='--svg --text --light --dark --calls --from --around --events --writers --help'
+      [[ ${COMP_WORDS[1]} != stats ]] || words='--format --events --writers --help'
+      [[ ${COMP_WORDS[1]} != shrink ]] || words='--draw --map --events --writers --help'
+      [[ ${COMP_WORDS[1]} != explain ]] || words='--draw --all --faults --events --writers --help'
       [[ $word == -* ]] || { mapfile -t COMPREPLY < <(compgen -f -- "$word"); return; }
       ;;
     record) words='--workers --rounds --events --seed --scan --judge --stamped --help' ;;

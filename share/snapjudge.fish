@@ -42,5 +42,6 @@ complete -c snapjudge -n '__fish_seen_subcommand_from record' -l scan -d 'Scans 
 complete -c snapjudge -n '__fish_seen_subcommand_from record' -l judge -d 'Write the report'
 complete -c snapjudge -n '__fish_seen_subcommand_from record' -l stamped -d 'Write stamps'
 complete -c snapjudge -n '__fish_seen_subcommand_from check shrink explain draw stats' -x -l events -d 'Events that a history may have, 1 to 1048576'
+complete -c snapjudge -n '__fish_seen_subcommand_from check shrink explain draw stats' -x -l writers -a 'one many' -d 'How many processes may write a component'
 complete -c snapjudge -n '__fish_seen_subcommand_from record' -x -l events -d 'Events that a history may have, 32 to 1048576'
 complete -c snapjudge -s h -l help -d 'Say how it is used'

@@ -23,19 +23,20 @@ for shell in bash zsh fish; do
   has "$shell" "completions of $shell" || continue
   completes "snapjudge sh" shrink
   completes "snapjudge --v" --version
-  completes "snapjudge check --" "--color --events --files-from --follow --format --help --idle --late --no-progress --null --pieces --quiet --recursive --summary --views --window --workers"
+  completes "snapjudge check --" "--color --events --files-from --follow --format --help --idle --late --no-progress --null --pieces --quiet --recursive --summary --views --window --workers --writers"
+  completes "snapjudge check --writers " "many one"
   completes "snapjudge check --format " "json junit plain"
   completes "snapjudge check --color " "always auto never"
   completes "snapjudge check --files-from t" two.csv
   completes "snapjudge check --quiet --pi" --pieces
   completes "snapjudge record --" "--events --help --judge --rounds --scan --seed --stamped --workers"
   completes "snapjudge record --scan --r" --rounds
-  completes "snapjudge draw --" "--around --calls --dark --events --from --help --light --svg --text"
+  completes "snapjudge draw --" "--around --calls --dark --events --from --help --light --svg --text --writers"
   completes "snapjudge draw --svg --d" --dark
-  completes "snapjudge shrink --" "--draw --events --help --map"
-  completes "snapjudge explain --" "--all --draw --events --faults --help"
+  completes "snapjudge shrink --" "--draw --events --help --map --writers"
+  completes "snapjudge explain --" "--all --draw --events --faults --help --writers"
   completes "snapjudge explain --d" --draw
-  completes "snapjudge stats --" "--events --format --help"
+  completes "snapjudge stats --" "--events --format --help --writers"
   completes "snapjudge stats --format " "json plain"
   for command in check shrink explain draw stats; do
     completes "snapjudge $command " "one.csv two.csv"

@@ -25,6 +25,8 @@ if has python3 "the second judge"; then
   done
   expect "the second judge of thousands of texts" 0 "4076 passed, 0 failed
 " python3 -B "$top/share/test-judge.py" "$top/snapjudge"
+  expect "a search through all orders of histories with many writers" 0 "3000 passed, 0 failed
+" python3 -B "$top/share/test-writers.py" "$top/snapjudge"
   expect "counts of hundreds of texts" 0 "1217 passed, 0 failed
 " python3 -B "$top/share/test-stats.py" "$top/snapjudge"
   sed -n 's/^\$ \(.*\) | \.\/snapjudge [a-z]*$/\1/p' "$top/docs/FORMAT.md" >texts

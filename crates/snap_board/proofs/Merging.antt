@@ -16,7 +16,7 @@ use Rattle.snap_core.specs.Orders.{is_completed}
 use Rattle.snap_core.specs.Regular.{IsRegular}
 use Rattle.snap_core.proofs.Lists.{count-cons}
 use Rattle.snap_core.proofs.Begun.{Next, nothing, found, next, events_of-cons, Begun}
-use Rattle.snap_core.proofs.Histories.{begun_of}
+use Rattle.snap_core.proofs.Ends.{begun_of}
 use Rattle.snap_account.specs.declared.account.Account.{Account}
 use Rattle.snap_account.specs.declared.account.Answered.{Answered}
 use Rattle.snap_account.specs.declared.account.Answer.{Answer}

@@ -15,7 +15,8 @@ use Rattle.snap_core.specs.Regular.{IsViewOf, IsUpdateOf, IsBegunBeforeEnd, IsRe
 use Rattle.snap_core.proofs.Lists.{In, Contains-from_In}
 use Rattle.snap_core.proofs.Facts.{precedes_to}
 use Rattle.snap_core.proofs.Begun.{Next, nothing, found, next, ends_it, operation_at, call_at, Begun}
-use Rattle.snap_core.proofs.Histories.{begun_of, are_calls}
+use Rattle.snap_core.proofs.Ends.{begun_of}
+use Rattle.snap_core.proofs.Histories.{are_calls}
 use Rattle.snap_board.specs.inside.Placed.{At, IsSpan, IsRegularByPlaces}
 
 -- the element after a front

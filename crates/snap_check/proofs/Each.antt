@@ -1,7 +1,7 @@
 -- Each text has a report.
 use Rattle.std.proofs.Common.{inl, inr, ℕ, List, refl}
+use Rattle.snap_core.specs.declared.limit.Limit.{Limit}
 use Rattle.snap_core.specs.Calls.{calls_of, views_of}
-use Rattle.snap_core.specs.Limits.{IsLimit}
 use Rattle.snap_conditions.specs.Tally.{tally_of}
 use Rattle.snap_format.proofs.Decided.{text_decided}
 use Rattle.snap_format.proofs.Histories.{text_kept}
@@ -14,12 +14,12 @@ use Rattle.snap_check.specs.Reports.{IsReport}
 use Rattle.snap_check.specs.Statuses.{status_of}
 use Rattle.snap_check.proofs.Verdicts.{has_status, order_by}
 
-pub each_report : (limit : ℕ) (text : List ℕ) → IsLimit limit → (status : Status) × (out : List ℕ) × IsReport limit text status out
-each_report limit text is = elim (text_decided limit text) [
+pub each_report : (limit : Limit) (text : List ℕ) → (status : Status) × (out : List ℕ) × IsReport limit text status out
+each_report limit text = elim (text_decided limit text) [
   | inl (events, read) ↦
       let t = tally_of (calls_of events) (views_of (calls_of events)) in
       let status = status_of (has_no_local_fault t) (has_no_fault t) in
-      let verdict = has_status events t (record { kept = text_kept limit text events is.1 read; whole = refl }) status refl in
+      let verdict = has_status limit.writers events t (record { kept = text_kept limit text events read; whole = refl }) status refl in
       (status, report_text events t (order_by events (has_no_fault t)), inr (record { events = events; history = read; verdict = verdict }))
   | inr (place, fault, first) ↦ (Refused, line_text (refusal_line place fault), inl (record { place = place; fault = fault; first = first; answers = refl; writes = refl }))
 ]

@@ -1,5 +1,6 @@
 -- What a run answers and writes.
 use Rattle.std.proofs.Common.{◌≡◌, inl, inr, ℕ, List, Option, Some, None, refl, subst}
+use Rattle.snap_core.specs.declared.limit.Limit.{Limit}
 use Rattle.std.specs.Global.{Vec}
 use Rattle.std.specs.Prelude.{IfSome}
 use Rattle.std.specs.Io.KnownBytes.{Appends}
@@ -25,20 +26,20 @@ pub with_text : (P Q : List ℕ → Type 0) (known : Option (List ℕ)) → IfSo
 with_text P Q None h then = tt
 with_text P Q (Some text) h then = then text h
 
-pub from_history : (limit : ℕ) (Q : List ℕ → Type 0) (known : Option (List ℕ)) (reading : Reading) (h : LimitedEvents) → IfSome known (λ text. Reads limit text reading) → reading ≡ History h → ((text : List ℕ) → IsText limit text h.events → Q text) → IfSome known Q
+pub from_history : (limit : Limit) (Q : List ℕ → Type 0) (known : Option (List ℕ)) (reading : Reading) (h : LimitedEvents) → IfSome known (λ text. Reads limit text reading) → reading ≡ History h → ((text : List ℕ) → IsText limit text h.events → Q text) → IfSome known Q
 from_history limit Q known reading h reads is then = with_text (λ text. IsText limit text h.events) Q known (subst (λ (r : Reading). IfSome known (λ text. Reads limit text r)) is reads) then
 
-pub from_refusal : (limit : ℕ) (Q : List ℕ → Type 0) (known : Option (List ℕ)) (reading : Reading) (line : Vec ℕ) → IfSome known (λ text. Reads limit text reading) → reading ≡ Refusal line → ((text : List ℕ) → IsRefused limit text Refused line.items → Q text) → IfSome known Q
+pub from_refusal : (limit : Limit) (Q : List ℕ → Type 0) (known : Option (List ℕ)) (reading : Reading) (line : Vec ℕ) → IfSome known (λ text. Reads limit text reading) → reading ≡ Refusal line → ((text : List ℕ) → IsRefused limit text Refused line.items → Q text) → IfSome known Q
 from_refusal limit Q known reading line h is then = with_text (λ text. IsRefused limit text Refused line.items) Q known (subst (λ (r : Reading). IfSome known (λ text. Reads limit text r)) is h) then
 
-pub judged : (limit : ℕ) (text : List ℕ) (events : List Event) (status : Status) (out : List ℕ) → IsText limit text events → IsVerdict events status out → IsReport limit text status out
+pub judged : (limit : Limit) (text : List ℕ) (events : List Event) (status : Status) (out : List ℕ) → IsText limit text events → IsVerdict limit.writers events status out → IsReport limit text status out
 judged limit text events status out reads verdict = inr (record { events = events; history = reads; verdict = verdict })
 
-pub refused : (limit : ℕ) (known : Option (List ℕ)) (place : ℕ) (fault : TextFault) (out : List ℕ) → IfSome known (λ text. HasFault limit text place fault) → out ≡ line_text (refusal_line place fault) → IfSome known (λ text. IsRefused limit text Refused out)
+pub refused : (limit : Limit) (known : Option (List ℕ)) (place : ℕ) (fault : TextFault) (out : List ℕ) → IfSome known (λ text. HasFault limit text place fault) → out ≡ line_text (refusal_line place fault) → IfSome known (λ text. IsRefused limit text Refused out)
 refused limit None place fault out first e = tt
 refused limit (Some text) place fault out first e = record { place = place; fault = fault; first = first; answers = refl; writes = e }
 
-pub reported : (limit : ℕ) (known : Option (List ℕ)) (out : List ℕ) → IfSome known (λ text. IsRefused limit text Refused out) → IfSome known (λ text. IsReport limit text Refused out)
+pub reported : (limit : Limit) (known : Option (List ℕ)) (out : List ℕ) → IfSome known (λ text. IsRefused limit text Refused out) → IfSome known (λ text. IsReport limit text Refused out)
 reported limit None out h = tt
 reported limit (Some text) out h = inl h
 

@@ -1,9 +1,10 @@
 -- What a check answers, writes and counts.
 use Rattle.std.specs.Prelude.{ℕ, List, ◌≡◌, Option, IfSome, Result, Ok, Err}
+use Rattle.snap_core.specs.declared.limit.Limit.{Limit}
 use Rattle.std.specs.Global.{Vec}
 use Rattle.std.specs.Io.KnownBytes.{Appends, Keeps}
 use Rattle.snap_core.specs.Counting.{Rose}
-use Rattle.snap_core.specs.Limits.{event_limit}
+use Rattle.snap_core.specs.UsualLimits.{usual_limit}
 use Rattle.snap_core.specs.Sending.{SendsFront}
 use Rattle.snap_format.specs.Texts.{IsText}
 use Rattle.snap_check.specs.declared.fault.RunFault.{RunFault}
@@ -37,7 +38,7 @@ WroteBy Is known old new (Err fault) = FailedBy Is known old new fault
 
 -- what a writer holds before and after a check, by the report of the text
 abbrev pub Wrote : Option (List ℕ) → Option (List ℕ) → Option (List ℕ) → Result Status RunFault → Type 0
-Wrote = WroteBy (IsReport event_limit)
+Wrote = WroteBy (IsReport usual_limit)
 
 -- the counts of failures before and after a run without a status
 abbrev pub FaultCounts : ℕ → ℕ → ℕ → ℕ → RunFault → Type 0
@@ -57,7 +58,7 @@ JudgesBy Is known (Ok answer) = IfSome known (λ text. Is text answer.0 answer.1
 JudgesBy Is known (Err fault) = Unit {0}
 
 abbrev pub Judges : Option (List ℕ) → Result (Status × Vec ℕ) RunFault → Type 0
-Judges = JudgesBy (IsReport event_limit)
+Judges = JudgesBy (IsReport usual_limit)
 
 abbrev pub JudgeFaultCounts : ℕ → ℕ → RunFault → Type 0
 JudgeFaultCounts old new faults.Read = Rose old new
@@ -68,7 +69,7 @@ abbrev pub JudgeCounts : {A : Type 0} → ℕ → ℕ → Result A RunFault → 
 JudgeCounts old new (Ok answer) = new ≡ old
 JudgeCounts old new (Err fault) = JudgeFaultCounts old new fault
 
--- what a text is, by a limit of events: a history, or else the line of its first fault
-abbrev pub Reads : ℕ → List ℕ → Reading → Type 0
+-- what a text is, within a limit: a history, or else the line of its first fault
+abbrev pub Reads : Limit → List ℕ → Reading → Type 0
 Reads limit text (History h) = IsText limit text h.events
 Reads limit text (Refusal line) = IsRefused limit text Refused line.items

@@ -3,7 +3,8 @@ use Rattle.std.specs.Prelude.{ℕ, Bool, true, false, List, ◌≡◌, ◌↔◌
 use Rattle.snap_core.specs.declared.event.Event.{Event}
 use Rattle.snap_core.specs.Calls.{Call, calls_of, views_of}
 use Rattle.snap_core.specs.Monotone.{IsMonotone}
-use Rattle.snap_core.specs.Orders.{IsAtomic, IsLegalOrder}
+use Rattle.snap_core.specs.declared.writers.Writers.{Writers}
+use Rattle.snap_theory.specs.Versions.{IsAtomicBy, IsLegalBy}
 use Rattle.snap_core.specs.Regular.{IsRegular}
 use Rattle.snap_conditions.specs.Tally.{tally_of}
 use Rattle.snap_theory.specs.Levels.{printed_order}
@@ -18,8 +19,8 @@ abbrev pub findings : Bool → List Call → List Line
 findings true calls = order_lines (printed_order calls)
 findings false calls = fault_lines (tally_of calls (views_of calls))
 
--- the status and the report of a history
-pub record IsVerdict (events : List Event) (status : Status) (out : List ℕ) : Type 0 where
+-- the status and the report of a history, whose components have so many writers
+pub record IsVerdict (writers : Writers) (events : List Event) (status : Status) (out : List ℕ) : Type 0 where
   pub regular : Bool
   pub monotone : Bool
   pub atomic : Bool
@@ -30,18 +31,18 @@ pub record IsVerdict (events : List Event) (status : Status) (out : List ℕ) : 
   pub monotone_exactly : IsTrue monotone ↔ IsMonotone (calls_of events)
   -- atomic exactly when some order of all completed calls and some pending updates keeps precedence and gives each view the
   -- latest updates. It is a linearization (Herlihy and Wing 1990)
-  pub atomic_exactly : IsTrue atomic ↔ IsAtomic (calls_of events)
+  pub atomic_exactly : IsTrue atomic ↔ IsAtomicBy writers (calls_of events)
   -- the printed order is such an order
-  pub legal : IsTrue atomic → IsLegalOrder (calls_of events) (printed_order (calls_of events))
+  pub legal : IsTrue atomic → IsLegalBy writers (calls_of events) (printed_order (calls_of events))
   pub answers : status ≡ status_of regular atomic
   pub writes : out ≡ text_of (report_lines events regular monotone atomic (findings atomic (calls_of events)))
 
 -- the status of a history, whatever is written about it
-abbrev pub HasStatus : List Event → Status → Type 0
-HasStatus events status = (report : List ℕ) × IsVerdict events status report
+abbrev pub HasStatus : Writers → List Event → Status → Type 0
+HasStatus writers events status = (report : List ℕ) × IsVerdict writers events status report
 
 -- the status of a history, and only the lines of the verdicts of its report
-pub record IsBriefVerdict (events : List Event) (status : Status) (out : List ℕ) : Type 0 where
+pub record IsBriefVerdict (writers : Writers) (events : List Event) (status : Status) (out : List ℕ) : Type 0 where
   pub report : List ℕ
-  pub verdict : IsVerdict events status report
+  pub verdict : IsVerdict writers events status report
   pub writes : out ≡ text_of (verdict_lines verdict.regular verdict.monotone verdict.atomic)

@@ -1,6 +1,8 @@
 //! A check, from a reader to a writer.
 ghost use Rattle.std.specs.Prelude.{◌≡◌, IfOk, IsSome};
 ghost use Rattle.snap_core.specs.Counting.{failures_in, inner_of};
+ghost use Rattle.snap_core.specs.declared.writers.Writers.{Writers};
+ghost use Rattle.snap_core.specs.Bounded.{IsHistoryBy};
 ghost use Rattle.snap_check.specs.Options.{IsReportWith, IsVerdictWith, IsWritten};
 ghost use Rattle.snap_check.specs.Runs.{JudgeCounts, JudgesBy, RunCounts, Wrote, WroteBy};
 
@@ -10,7 +12,7 @@ use crate::options::{CheckOptions, Checking};
 use crate::reading::{Reading, read_in};
 use crate::status::Status;
 use crate::workers::cutting_for;
-use snap_core::{Counted, Gate, History};
+use snap_core::{Counted, Gate, History, Ownership};
 use snap_index::Index;
 use snap_pairs::tally_and_chain;
 use snap_threads::Cutting;
@@ -19,14 +21,14 @@ use std::io::{Read, Write};
 use std::thread::Threads;
 
 // The status of a history by its index, and what is written of its report, in the memory of a vector.
-fn judged<Rt: Threads + Sync, G: Gate>(
+fn judged<Rt: Threads + Sync, G: Gate, O: Ownership + Sync>(
     rt: &Rt,
     alloc: Global,
-    index: &Index<'_>,
+    index: &Index<'_, O>,
     room: Vec<u8>,
     checking: &Checking<'_, G>,
 ) -> Result<(Status, Vec<u8>), AllocError>
-    ensures { IfOk result (λ answer. IsWritten checking.now.options.quiet index.now answer.0 answer.1.items) }
+    ensures { IfOk result (λ answer. (writers : Writers) → IsHistoryBy writers index.now → IsWritten checking.now.options.quiet writers index.now answer.0 answer.1.items) }
 {
     let (tally, chain) = tally_and_chain(rt, alloc, index, checking.cutting, checking.gate)?;
     if checking.options.quiet {
@@ -39,15 +41,18 @@ fn judged<Rt: Threads + Sync, G: Gate>(
 
 /// The status of a history, and what is written of its report, in the memory of a vector. The answer has no status if the history
 /// has fewer completed views than are asked for. Then nothing is to be written.
-pub fn verdict<Rt: Threads + Sync, G: Gate>(
+pub fn verdict<Rt: Threads + Sync, G: Gate, O: Ownership + Sync>(
     rt: &Rt,
     alloc: Global,
-    history: &History,
+    history: &History<O>,
     room: Vec<u8>,
     checking: &Checking<'_, G>,
 ) -> Result<(Option<Status>, Vec<u8>), AllocError>
-    ensures { IfOk result (λ answer. IsVerdictWith checking.now.options history.now.events answer.0 answer.1.items) }
+    ensures verdict { IfOk result (λ answer. IsVerdictWith checking.now.options O.writers history.now.events answer.0 answer.1.items) }
+    ensures by_writers { IfOk result (λ answer. (writers : Writers) → IsHistoryBy writers history.now.events → IsVerdictWith checking.now.options writers history.now.events answer.0 answer.1.items) }
 {
+    // this call shows what is known of the history
+    let _events = history.events();
     let index = Index::build(alloc, history)?;
     if index.view_count() < checking.options.views {
         return Ok((None, Vec::new(alloc)));

@@ -1,6 +1,8 @@
 //! The status and the report of a history, and of a text.
 ghost use Rattle.std.specs.Prelude.{◌≡◌, [], IfOk, IfSome, IsSome, is_some, map};
 ghost use Rattle.std.specs.Option.{ForSome};
+ghost use Rattle.snap_core.specs.declared.writers.Writers.{Writers};
+ghost use Rattle.snap_core.specs.Bounded.{IsHistoryBy};
 ghost use Rattle.snap_core.specs.Calls.{calls_of, views_of};
 ghost use Rattle.snap_views.specs.Chains.{IsViewChain};
 ghost use Rattle.snap_theory.specs.Faults.{read_faults};
@@ -12,7 +14,7 @@ ghost use Rattle.snap_check.specs.Reports.{IsReport};
 
 use crate::status::{Status, status_by};
 use snap_conditions::{Tally, is_atomic};
-use snap_core::{History, Limit};
+use snap_core::{AnyWriters, History, Limit, Ownership};
 use snap_csv::{ReadRefusal, read_text};
 use snap_index::Index;
 use snap_order::{build_alone, build_of_chain};
@@ -25,9 +27,9 @@ use std::thread::Threads;
 /// The status and the report of a history, by its index, the tally of all its completed views, and the numbers of its printed
 /// order. The order is given exactly when the tally has no fault. At most `workers` workers share its lines. The report takes the
 /// memory of a vector; what the vector had is lost. The error is lack of memory.
-pub fn verdict_of<R: Threads + Sync>(
+pub fn verdict_of<R: Threads + Sync, O: Ownership + Sync>(
     rt: &R,
-    index: &Index<'_>,
+    index: &Index<'_, O>,
     tally: &Tally,
     order: Option<&[u32]>,
     room: Vec<u8>,
@@ -36,7 +38,8 @@ pub fn verdict_of<R: Threads + Sync>(
     requires tally { tally.now ≡ tally_of (calls_of index.now) (views_of (calls_of index.now)) }
     requires given { is_some order ≡ has_no_fault tally.now }
     requires order { ForSome order (λ numbers. numbers.now ≡ map (λ c. c.number) (printed_order (calls_of index.now))) }
-    ensures { IfOk result (λ answer. IsVerdict index.now answer.0 answer.1.items) }
+    ensures verdict { IfOk result (λ answer. IsVerdict O.writers index.now answer.0 answer.1.items) }
+    ensures by_writers { IfOk result (λ answer. (writers : Writers) → IsHistoryBy writers index.now → IsVerdict writers index.now answer.0 answer.1.items) }
 {
     // this call shows what is known of the index's history
     let _events = index.event_count();
@@ -45,8 +48,8 @@ pub fn verdict_of<R: Threads + Sync>(
 }
 
 // The status and the report of `verdict_of` on the calling thread, for a caller without a runtime.
-fn verdict_alone(
-    index: &Index<'_>,
+fn verdict_alone<O: Ownership>(
+    index: &Index<'_, O>,
     tally: &Tally,
     order: Option<&[u32]>,
     room: Vec<u8>,
@@ -54,7 +57,7 @@ fn verdict_alone(
     requires tally { tally.now ≡ tally_of (calls_of index.now) (views_of (calls_of index.now)) }
     requires given { is_some order ≡ has_no_fault tally.now }
     requires order { ForSome order (λ numbers. numbers.now ≡ map (λ c. c.number) (printed_order (calls_of index.now))) }
-    ensures { IfOk result (λ answer. IsVerdict index.now answer.0 answer.1.items) }
+    ensures { IfOk result (λ answer. (writers : Writers) → IsHistoryBy writers index.now → IsVerdict writers index.now answer.0 answer.1.items) }
 {
     // this call shows what is known of the index's history
     let _events = index.event_count();
@@ -65,10 +68,10 @@ fn verdict_alone(
 /// The numbers of a history's printed order, given exactly when it has no fault. They come from its index, the tally of all its
 /// completed views, and these as a chain. The chain is given if no two of them are a read fault. At most `workers` workers share
 /// the calls. The error is lack of memory.
-pub fn order_by<R: Threads + Sync>(
+pub fn order_by<R: Threads + Sync, O: Ownership + Sync>(
     rt: &R,
     alloc: Global,
-    index: &Index<'_>,
+    index: &Index<'_, O>,
     tally: &Tally,
     chain: Option<ViewChain>,
     workers: u32,
@@ -87,9 +90,9 @@ pub fn order_by<R: Threads + Sync>(
 }
 
 /// The numbers of `order_by` on the calling thread, for a caller without a runtime.
-pub fn order_alone(
+pub fn order_alone<O: Ownership>(
     alloc: Global,
-    index: &Index<'_>,
+    index: &Index<'_, O>,
     tally: &Tally,
     chain: Option<ViewChain>,
 ) -> Result<Option<Vec<u32>>, AllocError>
@@ -108,9 +111,10 @@ pub fn order_alone(
 }
 
 /// The status of a history, by its index and the tally of all its completed views.
-pub fn status_of(index: &Index<'_>, tally: &Tally) -> Status
+pub fn status_of<O: Ownership>(index: &Index<'_, O>, tally: &Tally) -> Status
     requires tally { tally.now ≡ tally_of (calls_of index.now) (views_of (calls_of index.now)) }
-    ensures { HasStatus index.now result }
+    ensures status { HasStatus O.writers index.now result }
+    ensures by_writers { (writers : Writers) → IsHistoryBy writers index.now → HasStatus writers index.now result }
 {
     // this call shows what is known of the index's history
     let _events = index.event_count();
@@ -119,13 +123,14 @@ pub fn status_of(index: &Index<'_>, tally: &Tally) -> Status
 
 /// The status of a history, and of its report only the lines of the verdicts. They come from its index and the tally of all its
 /// completed views. The error is lack of memory.
-pub fn brief_verdict_of(
+pub fn brief_verdict_of<O: Ownership>(
     alloc: Global,
-    index: &Index<'_>,
+    index: &Index<'_, O>,
     tally: &Tally,
 ) -> Result<(Status, Vec<u8>), AllocError>
     requires tally { tally.now ≡ tally_of (calls_of index.now) (views_of (calls_of index.now)) }
-    ensures { IfOk result (λ answer. IsBriefVerdict index.now answer.0 answer.1.items) }
+    ensures verdict { IfOk result (λ answer. IsBriefVerdict O.writers index.now answer.0 answer.1.items) }
+    ensures by_writers { IfOk result (λ answer. (writers : Writers) → IsHistoryBy writers index.now → IsBriefVerdict writers index.now answer.0 answer.1.items) }
 {
     // this call shows what is known of the index's history
     let _events = index.event_count();
@@ -139,10 +144,10 @@ const FRONT_SIZE: usize = 128;
 // The status and the report of a history, without a runtime. `size` bytes are reserved at once for the report.
 fn verdict_in(
     alloc: Global,
-    history: &History,
+    history: &History<AnyWriters>,
     size: usize,
 ) -> Result<(Status, Vec<u8>), AllocError>
-    ensures { IfOk result (λ answer. IsVerdict history.now.events answer.0 answer.1.items) }
+    ensures { IfOk result (λ answer. (writers : Writers) → IsHistoryBy writers history.now.events → IsVerdict writers history.now.events answer.0 answer.1.items) }
 {
     let index = Index::build(alloc, history)?;
     let (tally, chain) = tally_and_chain_alone(alloc, &index)?;
@@ -155,7 +160,7 @@ fn verdict_in(
 /// events as the limit, and its text 1,024 bytes for each. A text that is not a history is refused, with the line of its first
 /// fault. The error is lack of memory.
 pub fn judge_text(alloc: Global, text: &[u8], limit: Limit) -> Result<(Status, Vec<u8>), AllocError>
-    ensures { IfOk result (λ answer. IsReport limit.events text.now answer.0 answer.1.items) }
+    ensures { IfOk result (λ answer. IsReport limit text.now answer.0 answer.1.items) }
 {
     match read_text(alloc, text, limit) {
         // a call's line is no longer than the records from which it is read

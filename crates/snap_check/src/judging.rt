@@ -14,7 +14,7 @@ ghost use Rattle.snap_views.specs.Chains.{IsViewChain};
 use crate::judge::{order_alone, order_by};
 use crate::workers::{SHARED_FROM, cutting_for};
 use snap_conditions::Tally;
-use snap_core::{Counted, History, Limit, OpenGate};
+use snap_core::{AnyWriters, Counted, History, Limit, OpenGate};
 use snap_csv::{ReadRefusal, read_records, read_records_with};
 use snap_index::Index;
 use snap_pairs::tally_and_chain;
@@ -37,9 +37,9 @@ pub trait Judging {
         reader: &mut Counted<R>,
         room: &mut Vec<u8>,
         limit: Limit,
-    ) -> Result<(History, Vec<u32>), ReadRefusal>
+    ) -> Result<(History<AnyWriters>, Vec<u32>), ReadRefusal>
         requires { ready }
-        ensures text { IfSome (R.remaining (inner_of reader.old)) (λ text. AnswersRecords limit.events text result) }
+        ensures text { IfSome (R.remaining (inner_of reader.old)) (λ text. AnswersRecords limit text result) }
         ensures each { IfOk result (λ read. length read.1.items ≡ length read.0.events) }
         ensures counts { Counts (failures_in reader.old) (failures_in reader.new) result }
         ensures room { IfSome (R.remaining (inner_of reader.old)) (λ text. Leaves text room.new.items result) };
@@ -49,7 +49,7 @@ pub trait Judging {
     fn tally_and_chain(
         &self,
         alloc: Global,
-        index: &Index<'_>,
+        index: &Index<'_, AnyWriters>,
         bytes: usize,
     ) -> Result<(Tally, Option<ViewChain>), AllocError>
         requires { ready }
@@ -61,7 +61,7 @@ pub trait Judging {
     fn order(
         &self,
         alloc: Global,
-        index: &Index<'_>,
+        index: &Index<'_, AnyWriters>,
         tally: &Tally,
         chain: Option<ViewChain>,
         bytes: usize,
@@ -87,14 +87,14 @@ impl Judging for Alone {
         reader: &mut Counted<R>,
         room: &mut Vec<u8>,
         limit: Limit,
-    ) -> Result<(History, Vec<u32>), ReadRefusal> {
+    ) -> Result<(History<AnyWriters>, Vec<u32>), ReadRefusal> {
         read_records(alloc, reader, room, limit)
     }
 
     fn tally_and_chain(
         &self,
         alloc: Global,
-        index: &Index<'_>,
+        index: &Index<'_, AnyWriters>,
         _bytes: usize,
     ) -> Result<(Tally, Option<ViewChain>), AllocError> {
         tally_and_chain_alone(alloc, index)
@@ -103,7 +103,7 @@ impl Judging for Alone {
     fn order(
         &self,
         alloc: Global,
-        index: &Index<'_>,
+        index: &Index<'_, AnyWriters>,
         tally: &Tally,
         chain: Option<ViewChain>,
         _bytes: usize,
@@ -131,14 +131,14 @@ impl<Rt: Threads + Sync> Judging for Workers<'_, Rt> {
         reader: &mut Counted<R>,
         room: &mut Vec<u8>,
         limit: Limit,
-    ) -> Result<(History, Vec<u32>), ReadRefusal> {
+    ) -> Result<(History<AnyWriters>, Vec<u32>), ReadRefusal> {
         read_records_with(self.rt, alloc, reader, room, limit, self.cutting)
     }
 
     fn tally_and_chain(
         &self,
         alloc: Global,
-        index: &Index<'_>,
+        index: &Index<'_, AnyWriters>,
         bytes: usize,
     ) -> Result<(Tally, Option<ViewChain>), AllocError> {
         let cutting = cutting_for(bytes, self.alone_below, self.finer, self.cutting);
@@ -148,7 +148,7 @@ impl<Rt: Threads + Sync> Judging for Workers<'_, Rt> {
     fn order(
         &self,
         alloc: Global,
-        index: &Index<'_>,
+        index: &Index<'_, AnyWriters>,
         tally: &Tally,
         chain: Option<ViewChain>,
         bytes: usize,

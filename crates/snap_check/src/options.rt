@@ -1,6 +1,6 @@
 //! The options of a check.
 ghost use Rattle.std.specs.Prelude.{◌≡◌, false};
-ghost use Rattle.snap_core.specs.Limits.{event_limit};
+ghost use Rattle.snap_core.specs.UsualLimits.{usual_limit};
 
 use snap_core::Limit;
 use snap_threads::Cutting;
@@ -34,7 +34,7 @@ impl CheckOptions {
     pub fn plain() -> CheckOptions
         ensures quiet { result.quiet ≡ false }
         ensures views { result.views ≡ 0 }
-        ensures limit { result.limit.events ≡ event_limit }
+        ensures limit { result.limit ≡ usual_limit }
         ensures alone_below { result.alone_below ≡ 0 }
         ensures pieces { result.finer ≡ false }
     {

@@ -4,7 +4,7 @@ ghost use Rattle.snap_core.specs.Counting.{failures_in, inner_of};
 ghost use Rattle.snap_check.specs.Runs.{JudgeCounts, Reads};
 
 use crate::fault::RunFault;
-use snap_core::{Counted, History, Limit};
+use snap_core::{AnyWriters, Counted, History, Limit};
 use snap_csv::{ReadRefusal, read_history_with};
 use snap_report::refusal_text;
 use snap_threads::Cutting;
@@ -15,7 +15,7 @@ use std::thread::Threads;
 /// What a text is: a history, or else the line of its first fault.
 #[derive(Drop)]
 pub enum Reading {
-    History(History),
+    History(History<AnyWriters>),
     Refusal(Vec<u8>),
 }
 
@@ -29,7 +29,7 @@ pub(crate) fn read_in<Rt: Threads + Sync, R: Read>(
     limit: Limit,
     cutting: Cutting,
 ) -> Result<Reading, RunFault>
-    ensures text { IfSome (R.remaining (inner_of reader.old)) (λ text. IfOk result (λ reading. Reads limit.events text reading)) }
+    ensures text { IfSome (R.remaining (inner_of reader.old)) (λ text. IfOk result (λ reading. Reads limit text reading)) }
     ensures counts { JudgeCounts (failures_in reader.old) (failures_in reader.new) result }
 {
     match read_history_with(rt, alloc, reader, room, limit, cutting) {

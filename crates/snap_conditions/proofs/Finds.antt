@@ -9,10 +9,10 @@ use Rattle.snap_core.proofs.Lists.{In}
 use Rattle.snap_core.specs.declared.entry.Entry.{Entry}
 use Rattle.snap_core.specs.declared.event.Event.{Event}
 use Rattle.snap_core.specs.Entries.{AreEntries, value_in}
-use Rattle.snap_core.specs.Events.{IsBoundedHistory}
+use Rattle.snap_core.specs.Bounded.{IsBoundedOrdered}
 use Rattle.snap_core.specs.Calls.{Call, calls_of, entries_of, is_before, precedes, shown, shown_number}
 use Rattle.snap_core.proofs.Facts.{shown_number_at}
-use Rattle.snap_core.proofs.Histories.{are_calls}
+use Rattle.snap_core.proofs.Ordered.{are_ordered_calls}
 use Rattle.snap_conditions.specs.declared.fault.IntegrityFault.{IntegrityFault}
 use Rattle.snap_conditions.specs.declared.fault.ProximityFault.{ProximityFault}
 use Rattle.snap_conditions.specs.declared.fault.Side.{Side}
@@ -39,12 +39,12 @@ pub shown_at : (r : Call) (i : ℕ) (x : Entry) → AreEntries (entries_of r.ope
 unfolding shown
 shown_at r i x h l = entry_at (entries_of r.operation) i x (sorted (entries_of r.operation) h) l
 
-pub integrity_found : (es : List Event) → IsBoundedHistory es → (r : Call) (e : Entry) → shown r e.component ≡ Some e →
+pub integrity_found : (es : List Event) → IsBoundedOrdered es → (r : Call) (e : Entry) → shown r e.component ≡ Some e →
     found_at (λ k. reported_integrity (r, k)) (integrity_fault (calls_of es) r) e.component ≡ then_some (not (is_written (update_of (calls_of es) e.component e.number) e)) (record { view = r.number; entry = e })
 integrity_found es kept r e s =
     let E : ℕ → ℕ → Entry = λ n v. record { component = e.component; number = n; value = v } in
     let F : Entry → IntegrityFault = λ d. record { view = r.number; entry = d } in
-    ap (λ b. then_some b (reported_integrity (r, e.component))) (integrity_by_update (calls_of es) (are_calls es kept.history) r e.component e s)
+    ap (λ b. then_some b (reported_integrity (r, e.component))) (integrity_by_update (calls_of es) (are_ordered_calls es kept.history) r e.component e s)
     ∙ ap (λ d. then_some (not (is_written (update_of (calls_of es) e.component e.number) e)) (F d))
     (ap (λ n. E n (value_in (shown r e.component))) (shown_number_at r e.component e s) ∙ ap (λ o. E e.number (value_in o)) s)
 
@@ -54,7 +54,7 @@ in_place (y ∷ ys) x d (inl e) = (0, omega arith, e)
 in_place (y ∷ ys) x d (inr h) = let r = in_place ys x d h in (suc r.0, omega (arith, r.1), r.2)
 
 -- where each entry is an update's
-pub none_unwritten : (es : List Event) → IsBoundedHistory es → (r : Call) → AreEntries (entries_of r.operation) → All (IsWritten (calls_of es)) (entries_of r.operation) → part_of reported_integrity (integrity_faults (calls_of es) (r ∷ [])) ≡ no_part
+pub none_unwritten : (es : List Event) → IsBoundedOrdered es → (r : Call) → AreEntries (entries_of r.operation) → All (IsWritten (calls_of es)) (entries_of r.operation) → part_of reported_integrity (integrity_faults (calls_of es) (r ∷ [])) ≡ no_part
 none_unwritten es kept r shape written = integrity_alone calls r ∙ ap (part_of (λ k. reported_integrity (r, k))) (filter_none (integrity_fault calls r) (listed r) not_found)
   where
     calls : List Call
@@ -69,7 +69,7 @@ none_unwritten es kept r shape written = integrity_alone calls r ∙ ap (part_of
         let within : p.0 < length entries = omega (arith, p.1, length-map entries (λ (e : Entry). e.component)) in
         let e = get_or entries p.0 nothing in
         let same : e.component ≡ k = sym (get_or-map (λ (d : Entry). d.component) entries p.0 nothing 0 within) ∙ p.2 in
-        ap (integrity_fault calls r) (sym same) ∙ integrity_by_update calls (are_calls es kept.history) r e.component e (shown_at r p.0 nothing shape within) ∙ ap not (written p.0 nothing within)
+        ap (integrity_fault calls r) (sym same) ∙ integrity_by_update calls (are_ordered_calls es kept.history) r e.component e (shown_at r p.0 nothing shape within) ∙ ap not (written p.0 nothing within)
 
 -- a view at a component, by the tests of its two sides
 
@@ -90,13 +90,13 @@ found_neither calls r k f g = ap (λ b. then_some (b || early_fault calls r k) (
 
 -- the tests by places of a view of which n is shown
 
-pub old_here : (es : List Event) → IsBoundedHistory es → (r : Call) (k n : ℕ) → n ≡ shown_number r k → old_fault (calls_of es) r k ≡ is_before (end_of (update_of (calls_of es) k (suc n))) r.begun
-old_here es kept r k n s = old_by_place (calls_of es) (are_calls es kept.history) r k ∙ ap (λ m. is_before (end_of (update_of (calls_of es) k (suc m))) r.begun) (sym s)
+pub old_here : (es : List Event) → IsBoundedOrdered es → (r : Call) (k n : ℕ) → n ≡ shown_number r k → old_fault (calls_of es) r k ≡ is_before (end_of (update_of (calls_of es) k (suc n))) r.begun
+old_here es kept r k n s = old_by_place (calls_of es) (are_ordered_calls es kept.history) r k ∙ ap (λ m. is_before (end_of (update_of (calls_of es) k (suc m))) r.begun) (sym s)
 
-pub early_here : (es : List Event) → IsBoundedHistory es → (r : Call) (k n : ℕ) → n ≡ shown_number r k → early_fault (calls_of es) r k ≡ begins_behind r.ended (begin_of (update_of (calls_of es) k n))
-early_here es kept r k n s = early_by_place (calls_of es) (are_calls es kept.history) r k ∙ ap (λ m. begins_behind r.ended (begin_of (update_of (calls_of es) k m))) (sym s)
+pub early_here : (es : List Event) → IsBoundedOrdered es → (r : Call) (k n : ℕ) → n ≡ shown_number r k → early_fault (calls_of es) r k ≡ begins_behind r.ended (begin_of (update_of (calls_of es) k n))
+early_here es kept r k n s = early_by_place (calls_of es) (are_ordered_calls es kept.history) r k ∙ ap (λ m. begins_behind r.ended (begin_of (update_of (calls_of es) k m))) (sym s)
 
-pub neither_found : (es : List Event) → IsBoundedHistory es → (r : Call) (k n : ℕ) → n ≡ shown_number r k → is_before (end_of (update_of (calls_of es) k (suc n))) r.begun ≡ false →
+pub neither_found : (es : List Event) → IsBoundedOrdered es → (r : Call) (k n : ℕ) → n ≡ shown_number r k → is_before (end_of (update_of (calls_of es) k (suc n))) r.begun ≡ false →
     begins_behind r.ended (begin_of (update_of (calls_of es) k n)) ≡ false → proximity_at (calls_of es) r k ≡ None
 neither_found es kept r k n s f g = found_neither (calls_of es) r k (old_here es kept r k n s ∙ f) (early_here es kept r k n s ∙ g)
 
@@ -126,15 +126,15 @@ pub never : (o : Option ℕ) → begins_behind None o ≡ false
 never None = refl
 never (Some b) = refl
 
-pub none_missed : (es : List Event) → IsBoundedHistory es → (r : Call) (j : ℕ) → end_of (update_of (calls_of es) j (suc (shown_number r j))) ≡ None → part_of reported_write (missed_at (calls_of es) r j) ≡ no_part
+pub none_missed : (es : List Event) → IsBoundedOrdered es → (r : Call) (j : ℕ) → end_of (update_of (calls_of es) j (suc (shown_number r j))) ≡ None → part_of reported_write (missed_at (calls_of es) r j) ≡ no_part
 none_missed es kept r j none =
     let calls = calls_of es in
     let shown_begin : ℕ → Option ℕ = λ k. begin_of (update_of calls k (shown_number r k)) in
     missed_part calls r j
-    ∙ ap (part_of (λ k. reported_write (r, j, k))) (filter_none (write_fault calls r j) (listed r) (λ k i. write_by_place calls (are_calls es kept.history) r j k ∙ ap (λ o. begins_behind o (shown_begin k)) none ∙ never (shown_begin k)))
+    ∙ ap (part_of (λ k. reported_write (r, j, k))) (filter_none (write_fault calls r j) (listed r) (λ k i. write_by_place calls (are_ordered_calls es kept.history) r j k ∙ ap (λ o. begins_behind o (shown_begin k)) none ∙ never (shown_begin k)))
 
 -- where no update that the view shows begins after the end of the update that it misses
-pub none_behind : (es : List Event) → IsBoundedHistory es → (r : Call) (j : ℕ) (latest : Option ℕ) → AreEntries (entries_of r.operation) →
+pub none_behind : (es : List Event) → IsBoundedOrdered es → (r : Call) (j : ℕ) (latest : Option ℕ) → AreEntries (entries_of r.operation) →
     ((i : ℕ) → i < length (entries_of r.operation) → IsNoLater (begin_of_shown (calls_of es) (entries_of r.operation) i) latest) →
     begins_behind (end_of (update_of (calls_of es) j (suc (shown_number r j)))) latest ≡ false → part_of reported_write (missed_at (calls_of es) r j) ≡ no_part
 none_behind es kept r j latest shape no_later none = missed_part calls r j ∙ ap (part_of (λ k. reported_write (r, j, k))) (filter_none (write_fault calls r j) (listed r) not)
@@ -152,5 +152,5 @@ none_behind es kept r j latest shape no_later none = missed_part calls r j ∙ a
         let e = get_or entries p.0 nothing in
         let same : e.component ≡ k = sym (get_or-map (λ (d : Entry). d.component) entries p.0 nothing 0 within) ∙ p.2 in
         let number : e.number ≡ shown_number r k = sym (shown_number_at r e.component e (shown_at r p.0 nothing shape within)) ∙ ap (shown_number r) same in
-        write_by_place calls (are_calls es kept.history) r j k
+        write_by_place calls (are_ordered_calls es kept.history) r j k
         ∙ behind_none _ (begin_of (update_of calls k (shown_number r k))) latest (subst (λ n. IsNoLater (begin_of (update_of calls k n)) latest) number (subst (λ c. IsNoLater (begin_of (update_of calls c e.number)) latest) same (no_later p.0 within))) none

@@ -4,7 +4,7 @@ use Rattle.std.specs.Prelude.{filter, flat_map, count_by}
 use Rattle.std.proofs.lemmas.List.{take_all}
 use Rattle.std.proofs.lemmas.List.FromFn.{get_or-range_with_len}
 use Rattle.snap_core.specs.declared.event.Event.{Event}
-use Rattle.snap_core.specs.Events.{IsBoundedHistory}
+use Rattle.snap_core.specs.Bounded.{IsBoundedOrdered}
 use Rattle.snap_core.specs.Calls.{Call, calls_of, shown_number, is_before}
 use Rattle.snap_index.specs.Updates.{is_update_of}
 use Rattle.snap_theory.specs.Faults.{components, missed_at, old_fault, early_fault}
@@ -29,18 +29,18 @@ none_step es r j l missed =
     sym (merged_none so_far) ∙ ap (merged_part so_far) (sym missed ∙ ap (λ z. part_of reported_write (missed_at calls r z)) (sym (at_place j l)))
     ∙ sym (merge_step reported_write (missed_at calls r) components j 0 l)
 
-missed_step : (es : List Event) → IsBoundedHistory es → (r : Call) (j : ℕ) → j < 256 → count_by (is_update_of j) (calls_of es) ≡ 0 →
+missed_step : (es : List Event) → IsBoundedOrdered es → (r : Call) (j : ℕ) → j < 256 → count_by (is_update_of j) (calls_of es) ≡ 0 →
     part_of reported_write (flat_map (missed_at (calls_of es) r) (take j components)) ≡ part_of reported_write (flat_map (missed_at (calls_of es) r) (take (j + 1) components))
 missed_step es kept r j l none =
     none_step es r j l (none_missed es kept r j (ap end_of (none_of_none es kept j (suc (shown_number r j)) none)))
 
 -- the components that are left have no write fault
-pub missed_rest : (es : List Event) → IsBoundedHistory es → (r : Call) (limit : ℕ) → IsLimit (calls_of es) limit → (n j : ℕ) → limit ≤ j → j + n ≡ 256 →
+pub missed_rest : (es : List Event) → IsBoundedOrdered es → (r : Call) (limit : ℕ) → IsLimit (calls_of es) limit → (n j : ℕ) → limit ≤ j → j + n ≡ 256 →
     part_of reported_write (flat_map (missed_at (calls_of es) r) (take j components)) ≡ part_of reported_write (flat_map (missed_at (calls_of es) r) components)
 missed_rest es kept r limit h zero j l e = ap (λ xs. part_of reported_write (flat_map (missed_at (calls_of es) r) xs)) (take_all j components (omega (arith, e)))
 missed_rest es kept r limit h (suc n) j l e = missed_step es kept r j (omega (arith, e)) (h.none j l (omega (arith, e))) ∙ missed_rest es kept r limit h n (j + 1) (omega (arith, l)) (omega (arith, e))
 
-pub near_step : (es : List Event) → IsBoundedHistory es → (r : Call) (k : ℕ) → k < 256 → count_by (is_update_of k) (calls_of es) ≡ 0 →
+pub near_step : (es : List Event) → IsBoundedOrdered es → (r : Call) (k : ℕ) → k < 256 → count_by (is_update_of k) (calls_of es) ≡ 0 →
     part_of (λ k. reported_proximity (calls_of es) (r, k)) (filter (λ k. old_fault (calls_of es) r k || early_fault (calls_of es) r k) (take k components))
     ≡ part_of (λ k. reported_proximity (calls_of es) (r, k)) (filter (λ k. old_fault (calls_of es) r k || early_fault (calls_of es) r k) (take (k + 1) components))
 near_step es kept r k l none =
@@ -53,7 +53,7 @@ near_step es kept r k l none =
     (sym (neither_found es kept r k n refl old early) ∙ ap (proximity_at calls r) (sym (at_place k l)))
 
 -- the components that are left have no proximity fault
-pub near_rest : (es : List Event) → IsBoundedHistory es → (r : Call) (limit : ℕ) → IsLimit (calls_of es) limit → (n k : ℕ) → limit ≤ k → k + n ≡ 256 →
+pub near_rest : (es : List Event) → IsBoundedOrdered es → (r : Call) (limit : ℕ) → IsLimit (calls_of es) limit → (n k : ℕ) → limit ≤ k → k + n ≡ 256 →
     part_of (λ k. reported_proximity (calls_of es) (r, k)) (filter (λ k. old_fault (calls_of es) r k || early_fault (calls_of es) r k) (take k components))
     ≡ part_of (λ k. reported_proximity (calls_of es) (r, k)) (filter (λ k. old_fault (calls_of es) r k || early_fault (calls_of es) r k) components)
 near_rest es kept r limit h zero k l e =

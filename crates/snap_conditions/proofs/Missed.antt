@@ -1,8 +1,7 @@
 -- The updates that a view misses, by the begins of those that it shows.
 use Rattle.std.proofs.Common.{◌≡◌, ℕ, zero, suc, ◌+◌, ◌<◌, ◌≤◌, Bool, true, false, not, cond, List, [], ◌∷◌, length, get_or, Option, Some, None, refl, sym, ap, ◌∙◌, arith}
-use Rattle.std.specs.Prelude.{nat_lt, filter, count_by, option_map}
+use Rattle.std.specs.Prelude.{nat_lt, filter, count_by, option_map, is_some}
 use Rattle.std.specs.List.{position_or_len}
-use Rattle.std.specs.Prelude.{is_some}
 use Rattle.std.specs.Option.{option_or}
 use Rattle.std.proofs.lemmas.Bool.{lt-ltb, le-ltb}
 use Rattle.std.proofs.lemmas.List.{get_or-map, length-map}
@@ -10,10 +9,10 @@ use Rattle.std.proofs.lemmas.List.Sums.{sum_by-cons}
 use Rattle.snap_core.specs.declared.entry.Entry.{Entry}
 use Rattle.snap_core.specs.declared.event.Event.{Event}
 use Rattle.snap_core.specs.Entries.{AreEntries}
-use Rattle.snap_core.specs.Events.{IsBoundedHistory}
+use Rattle.snap_core.specs.Bounded.{IsBoundedOrdered}
 use Rattle.snap_core.specs.Calls.{Call, calls_of, entries_of, shown_number}
 use Rattle.snap_core.proofs.Facts.{shown_number_at}
-use Rattle.snap_core.proofs.Histories.{are_calls}
+use Rattle.snap_core.proofs.Ordered.{are_ordered_calls}
 use Rattle.snap_conditions.specs.declared.fault.WriteFault.{WriteFault}
 use Rattle.snap_theory.specs.Faults.{write_fault, listed, first_of, missed_at}
 use Rattle.snap_conditions.specs.Parts.{part_of, no_part, merged_part}
@@ -28,14 +27,14 @@ use Rattle.snap_conditions.proofs.Finds.{shown_at}
 use Rattle.snap_conditions.proofs.Places.{write_by_place, behind_begin}
 
 -- the test of one entry
-pub test_at : (es : List Event) → IsBoundedHistory es → (r : Call) (j ended : ℕ) (begins : List ℕ) → AreEntries (entries_of r.operation) → end_of (update_of (calls_of es) j (suc (shown_number r j))) ≡ Some ended →
+pub test_at : (es : List Event) → IsBoundedOrdered es → (r : Call) (j ended : ℕ) (begins : List ℕ) → AreEntries (entries_of r.operation) → end_of (update_of (calls_of es) j (suc (shown_number r j))) ≡ Some ended →
     (i : ℕ) → i < length (entries_of r.operation) → get_or begins i 0 ≡ begin_or_0 (begin_of_shown (calls_of es) (entries_of r.operation) i) → write_fault (calls_of es) r j (get_or (listed r) i 0) ≡ nat_lt ended (get_or begins i 0)
 test_at es kept r j ended begins shape e i l b =
     let calls = calls_of es in
     let d = get_or (entries_of r.operation) i nothing in
     let at : get_or (listed r) i 0 ≡ d.component = get_or-map (λ (d : Entry). d.component) (entries_of r.operation) i nothing 0 l in
     let number = shown_number_at r d.component d (shown_at r i nothing shape l) in
-    ap (write_fault calls r j) at ∙ write_by_place calls (are_calls es kept.history) r j d.component
+    ap (write_fault calls r j) at ∙ write_by_place calls (are_ordered_calls es kept.history) r j d.component
     ∙ ap (λ o. begins_behind o (begin_of (update_of calls d.component (shown_number r d.component)))) e
     ∙ ap (λ n. begins_behind (Some ended) (begin_of (update_of calls d.component n))) number
     ∙ behind_begin (Some ended) (begin_of_shown calls (entries_of r.operation) i) ∙ ap (nat_lt ended) (sym b)
@@ -89,7 +88,7 @@ pub record AreTested (calls : List Call) (r : Call) (j ended : ℕ) (begins : Li
   pub size : length (listed r) ≡ length begins
   pub test : (i : ℕ) → i < length (listed r) → write_fault calls r j (get_or (listed r) i 0) ≡ nat_lt ended (get_or begins i 0)
 
-pub are_tested : (es : List Event) → IsBoundedHistory es → (r : Call) (j ended : ℕ) (entries : List Entry) (begins : List ℕ) → entries ≡ entries_of r.operation → AreEntries (entries_of r.operation) → end_of (update_of (calls_of es) j (suc (shown_number r j))) ≡ Some ended →
+pub are_tested : (es : List Event) → IsBoundedOrdered es → (r : Call) (j ended : ℕ) (entries : List Entry) (begins : List ℕ) → entries ≡ entries_of r.operation → AreEntries (entries_of r.operation) → end_of (update_of (calls_of es) j (suc (shown_number r j))) ≡ Some ended →
     length begins ≡ length entries → ((i : ℕ) → i < length entries → get_or begins i 0 ≡ begin_or_0 (begin_of_shown (calls_of es) entries i)) → AreTested (calls_of es) r j ended begins
 are_tested es kept r j ended entries begins same shape e n h = record {
   size = omega (arith, long, n, ap length same);

@@ -1,22 +1,22 @@
 -- Numbers that no update has.
 use Rattle.std.proofs.Common.{◌≡◌, ℕ, ◌≤◌, Bool, false, cond, List, [], ◌∷◌, Some, None, refl, sym, ap, ◌∙◌, subst, inl, inr, arith}
-use Rattle.std.specs.Prelude.{find}
+use Rattle.std.specs.Prelude.{find, count_by}
 use Rattle.std.specs.List.{All}
-use Rattle.std.proofs.lemmas.Bool.{false_from_ne_true}
+use Rattle.std.proofs.lemmas.Bool.{false_from_ne_true, cases_eq}
 use Rattle.std.proofs.lemmas.List.Elements.{All-contains}
 use Rattle.snap_core.specs.declared.entry.Entry.{Entry}
 use Rattle.snap_core.specs.declared.event.Event.{Event}
 use Rattle.snap_core.specs.declared.event.Event.TheVariants.{BeginUpdate, BeginView, EndUpdate, EndView}
 use Rattle.snap_core.specs.Entries.{EntryFits}
-use Rattle.snap_core.specs.Events.{EventFits, IsBoundedHistory}
+use Rattle.snap_core.specs.Events.{EventFits}
+use Rattle.snap_core.specs.Bounded.{IsBoundedOrdered}
 use Rattle.snap_core.specs.Calls.{Call, Updates, calls_of, is_update_numbered}
 use Rattle.snap_core.specs.Regular.{IsUpdateOf}
 use Rattle.snap_core.proofs.Lists.{In}
 use Rattle.snap_core.proofs.Begun.{Begun, operation_at}
-use Rattle.snap_core.proofs.Histories.{begun_of, in_history}
+use Rattle.snap_core.proofs.Ends.{begun_of}
+use Rattle.snap_core.proofs.Histories.{in_history}
 use Rattle.snap_theory.specs.Updates.{update_of}
-use Rattle.std.specs.Prelude.{count_by}
-use Rattle.std.proofs.lemmas.Bool.{cases_eq}
 use Rattle.snap_index.specs.Updates.{is_update_of}
 use Rattle.snap_index.proofs.Known.{no_update_0, update_beyond}
 use Rattle.snap_theory.proofs.Local.{numbered_to}
@@ -44,14 +44,14 @@ find_none p [] h = refl
 find_none p (x ∷ xs) h = ap (λ b. cond b (Some x) (find p xs)) (h x (inl refl)) ∙ find_none p xs (λ y i. h y (inr i))
 
 -- no update has a number past the largest of its type
-pub no_update_past : (es : List Event) → IsBoundedHistory es → (k n : ℕ) → 4294967296 ≤ n → update_of (calls_of es) k n ≡ None
+pub no_update_past : (es : List Event) → IsBoundedOrdered es → (k n : ℕ) → 4294967296 ≤ n → update_of (calls_of es) k n ≡ None
 no_update_past es kept k n l = find_none (is_update_numbered k n) (calls_of es) (λ c i. false_from_ne_true _ (λ t.
     let x = numbered_to (calls_of es) k n c i t in
     let f = update_fits es kept.fit c x.entry x.update in
     omega (arith, f.1, x.number, l)))
 
 -- a component without an update
-pub none_of_none : (es : List Event) → IsBoundedHistory es → (k n : ℕ) → count_by (is_update_of k) (calls_of es) ≡ 0 → update_of (calls_of es) k n ≡ None
+pub none_of_none : (es : List Event) → IsBoundedOrdered es → (k n : ℕ) → count_by (is_update_of k) (calls_of es) ≡ 0 → update_of (calls_of es) k n ≡ None
 none_of_none es kept k n z = elim (cases_eq n 0) [
   | inl same ↦ ap (update_of (calls_of es) k) same ∙ no_update_0 es kept.history k
   | inr other ↦ update_beyond es kept.history k n (omega (arith, z, other))

@@ -4,7 +4,7 @@ use Rattle.std.specs.Prelude.{filter, flat_map}
 use Rattle.std.proofs.lemmas.List.{length-take, length-map}
 use Rattle.snap_core.specs.Calls.{Call, calls_of, views_of}
 use Rattle.snap_core.specs.declared.event.Event.{Event}
-use Rattle.snap_core.specs.Events.{IsBoundedHistory}
+use Rattle.snap_core.specs.Bounded.{IsBoundedOrdered}
 use Rattle.snap_core.proofs.Lists.{In}
 use Rattle.snap_theory.specs.Faults.{integrity_fault, old_fault, early_fault, read_fault, write_fault, components, listed, integrity_faults, proximity_faults, read_faults, write_faults, missed_at}
 use Rattle.snap_conditions.specs.Parts.{part_of}
@@ -48,11 +48,11 @@ pub found_few : {X : Type 0} (p : X → Bool) (xs : List X) (i : ℕ) → length
 found_few p xs i = omega (arith, filter_short p (take i xs), length-take i xs)
 
 -- the write faults found among the first components fit together with those of one more
-pub missed_few : (es : List Event) → IsBoundedHistory es → (r : Call) → In r (views_of (calls_of es)) → (j : ℕ) → length (missed_at (calls_of es) r j) ≤ 256
+pub missed_few : (es : List Event) → IsBoundedOrdered es → (r : Call) → In r (views_of (calls_of es)) → (j : ℕ) → length (missed_at (calls_of es) r j) ≤ 256
 missed_few es kept r i j =
     omega (arith, length-map {B = Call × ℕ × ℕ} (filter (write_fault (calls_of es) r j) (listed r)) (λ k. (r, j, k)), filter_short (write_fault (calls_of es) r j) (listed r), few_listed es kept r i)
 
-pub all_missed_few : (es : List Event) → IsBoundedHistory es → (r : Call) → In r (views_of (calls_of es)) → (n : ℕ) → length (flat_map (missed_at (calls_of es) r) (take n components)) ≤ n * 256
+pub all_missed_few : (es : List Event) → IsBoundedOrdered es → (r : Call) → In r (views_of (calls_of es)) → (n : ℕ) → length (flat_map (missed_at (calls_of es) r) (take n components)) ≤ n * 256
 all_missed_few es kept r i n =
     let few = flat_map_short (missed_at (calls_of es) r) 256 (take n components) (λ j k. missed_few es kept r i j) in
     omega (arith, few, length-take n components)

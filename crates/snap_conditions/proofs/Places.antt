@@ -6,7 +6,7 @@ use Rattle.std.proofs.lemmas.Bool.{false≢true, false_from_ne_true, and_parts, 
 use Rattle.snap_core.specs.declared.entry.Entry.{Entry}
 use Rattle.snap_core.specs.Calls.{Call, Operation, Updates, Views, is_update_numbered, writes_number, precedes, is_before, shown, shown_number}
 use Rattle.snap_core.proofs.Lists.{In, any_to}
-use Rattle.snap_core.proofs.Facts.{AreCalls}
+use Rattle.snap_core.proofs.Ordered.{AreOrderedCalls}
 use Rattle.snap_theory.specs.Faults.{writes_entry, is_unwritten, integrity_fault, old_fault, early_fault, write_fault}
 use Rattle.snap_conditions.specs.inside.Places.{end_of, begin_of, begins_behind, begin_or_0, is_written, IsNoLater}
 use Rattle.snap_theory.specs.Updates.{update_of}
@@ -36,7 +36,7 @@ any_one {X} p q (x ∷ xs) one = go (p x) refl (any_one p q xs (λ a b i j. one 
     go true t rest = at (q x) t refl
     go false t rest = rest
 
-any_update : (calls : List Call) → AreCalls calls → (k n : ℕ) (q : Call → Bool) → list_any (λ a. is_update_numbered k n a && q a) calls ≡ holds_of q (update_of calls k n)
+any_update : (calls : List Call) → AreOrderedCalls calls → (k n : ℕ) (q : Call → Bool) → list_any (λ a. is_update_numbered k n a && q a) calls ≡ holds_of q (update_of calls k n)
 any_update calls f k n q = any_one (is_update_numbered k n) q calls one
   where
     one : (a b : Call) → In a calls → In b calls → is_update_numbered k n a ≡ true → is_update_numbered k n b ≡ true → a ≡ b
@@ -45,7 +45,7 @@ any_update calls f k n q = any_one (is_update_numbered k n) q calls one
         let y = numbered_to calls k n b j t in
         f.one a b x.entry y.entry x.update y.update (x.component ∙ sym y.component) (x.number ∙ sym y.number)
 
-pub old_by_place : (calls : List Call) → AreCalls calls → (r : Call) (k : ℕ) → old_fault calls r k ≡ is_before (end_of (update_of calls k (suc (shown_number r k)))) r.begun
+pub old_by_place : (calls : List Call) → AreOrderedCalls calls → (r : Call) (k : ℕ) → old_fault calls r k ≡ is_before (end_of (update_of calls k (suc (shown_number r k)))) r.begun
 unfolding old_fault precedes
 old_by_place calls f r k = any_update calls f k (suc (shown_number r k)) (λ a. is_before a.ended r.begun) ∙ at (update_of calls k (suc (shown_number r k)))
   where
@@ -53,7 +53,7 @@ old_by_place calls f r k = any_update calls f k (suc (shown_number r k)) (λ a. 
     at None = refl
     at (Some a) = refl
 
-pub early_by_place : (calls : List Call) → AreCalls calls → (r : Call) (k : ℕ) → early_fault calls r k ≡ begins_behind r.ended (begin_of (update_of calls k (shown_number r k)))
+pub early_by_place : (calls : List Call) → AreOrderedCalls calls → (r : Call) (k : ℕ) → early_fault calls r k ≡ begins_behind r.ended (begin_of (update_of calls k (shown_number r k)))
 unfolding early_fault precedes
 early_by_place calls f r k = any_update calls f k (shown_number r k) (λ a. is_before r.ended a.begun) ∙ at (update_of calls k (shown_number r k))
   where
@@ -61,7 +61,7 @@ early_by_place calls f r k = any_update calls f k (shown_number r k) (λ a. is_b
     at None = refl
     at (Some a) = refl
 
-pub write_by_place : (calls : List Call) → AreCalls calls → (r : Call) (j k : ℕ) →
+pub write_by_place : (calls : List Call) → AreOrderedCalls calls → (r : Call) (j k : ℕ) →
     write_fault calls r j k ≡ begins_behind (end_of (update_of calls j (suc (shown_number r j)))) (begin_of (update_of calls k (shown_number r k)))
 unfolding write_fault precedes
 write_by_place calls f r j k =
@@ -93,7 +93,7 @@ of_its_number (Updates d) e = twice (d.component == e.component) (d.number == e.
     twice false b c = refl
 of_its_number (Views answer) e = refl
 
-any_written : (calls : List Call) → AreCalls calls → (e : Entry) → list_any (λ c. writes_entry c.operation e) calls ≡ is_written (update_of calls e.component e.number) e
+any_written : (calls : List Call) → AreOrderedCalls calls → (e : Entry) → list_any (λ c. writes_entry c.operation e) calls ≡ is_written (update_of calls e.component e.number) e
 unfolding is_update_numbered
 any_written calls f e =
     any_same (λ c. writes_entry c.operation e) (λ c. is_update_numbered e.component e.number c && writes_entry c.operation e) calls (λ c. of_its_number c.operation e)
@@ -103,7 +103,7 @@ any_written calls f e =
     at None = refl
     at (Some c) = refl
 
-pub integrity_by_update : (calls : List Call) → AreCalls calls → (r : Call) (k : ℕ) (e : Entry) → shown r k ≡ Some e → integrity_fault calls r k ≡ not (is_written (update_of calls e.component e.number) e)
+pub integrity_by_update : (calls : List Call) → AreOrderedCalls calls → (r : Call) (k : ℕ) (e : Entry) → shown r k ≡ Some e → integrity_fault calls r k ≡ not (is_written (update_of calls e.component e.number) e)
 unfolding integrity_fault
 integrity_by_update calls f r k e s = ap (is_unwritten calls) s ∙ ap not (any_written calls f e)
 

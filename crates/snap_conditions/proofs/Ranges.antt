@@ -4,7 +4,8 @@ use Rattle.std.specs.Prelude.{◌||◌, filter}
 use Rattle.std.specs.List.{flat_map}
 use Rattle.std.proofs.lemmas.List.{take_all, length-take, drop_more, length-map}
 use Rattle.snap_core.specs.declared.event.Event.{Event}
-use Rattle.snap_core.specs.Events.{IsBoundedHistory, event_cap}
+use Rattle.snap_core.specs.Bounded.{IsBoundedOrdered}
+use Rattle.snap_core.specs.Events.{event_cap}
 use Rattle.snap_core.specs.Calls.{Call, calls_of, entries_of, views_of, nobody}
 use Rattle.snap_core.proofs.Lists.{In}
 use Rattle.snap_conditions.specs.declared.tally.Tally.{Tally}
@@ -13,7 +14,7 @@ use Rattle.snap_theory.specs.Faults.{integrity_fault, old_fault, early_fault, re
 use Rattle.snap_conditions.specs.Tally.{tally_of, SumsFit, reported_integrity, reported_proximity, reported_read, reported_write, merged, no_fault, CountsNoLocalFault}
 use Rattle.snap_views.specs.Seen.{view_in, views_between}
 use Rattle.snap_conditions.specs.Laws.{TalliesJoin, TalliesFit, RegularByTally, ConditionsByTally, NoFaultByTally}
-use Rattle.snap_theory.proofs.FaultLaws.{regular_exactly, conditions_exactly}
+use Rattle.snap_theory.proofs.FaultLaws.{ordered_regular_exactly, ordered_conditions_exactly}
 use Rattle.snap_conditions.proofs.Parts.{part-append, flat_map_short}
 use Rattle.snap_views.proofs.Pieces.{range_joined}
 use Rattle.snap_views.proofs.Sizes.{few_views, filter_short, rising_few}
@@ -85,12 +86,12 @@ pub record IsSmall (n : ℕ) (t : Tally) : Type 0 where
   pub write : t.write.count ≤ n * event_cap
   pub stale : t.stale ≤ n * event_cap
 
-pub few_listed : (es : List Event) → IsBoundedHistory es → (r : Call) → In r (views_of (calls_of es)) → length (listed r) ≤ 256
+pub few_listed : (es : List Event) → IsBoundedOrdered es → (r : Call) → In r (views_of (calls_of es)) → length (listed r) ≤ 256
 few_listed es k r i =
     let f = fit_views es k.fit r (from_views (calls_of es) r i).there in
     omega (arith, length-map (entries_of r.operation) (λ e. e.component), rising_few (entries_of r.operation) f.rising (λ j d l. (f.fit j d l).0))
 
-pub tally_small : (es : List Event) → IsBoundedHistory es → (rs : List Call) → Within rs (views_of (calls_of es)) → IsSmall (length rs) (tally_of (calls_of es) rs)
+pub tally_small : (es : List Event) → IsBoundedOrdered es → (rs : List Call) → Within rs (views_of (calls_of es)) → IsSmall (length rs) (tally_of (calls_of es) rs)
 unfolding tally_of integrity_faults proximity_faults read_faults write_faults
 tally_small es k rs w = record {
   integrity = flat_map_short _ event_cap rs (λ r i. omega (arith, length-map {B = Call × ℕ} (filter (integrity_fault calls r) (listed r)) (λ k. (r, k)), filter_short (integrity_fault calls r) (listed r), few_listed es k r (w r i)));
@@ -124,7 +125,7 @@ ranges_fit es k from middle to l m n =
 
 -- a range that grows by one view
 
-pub next_fits : (es : List Event) → IsBoundedHistory es → (from place : ℕ) → from ≤ place → place < length (views_of (calls_of es)) →
+pub next_fits : (es : List Event) → IsBoundedOrdered es → (from place : ℕ) → from ≤ place → place < length (views_of (calls_of es)) →
     SumsFit (tally_of (calls_of es) (views_between (calls_of es) from place)) (tally_of (calls_of es) (view_in (calls_of es) place ∷ []))
 next_fits es k from place l m =
     let calls = calls_of es in
@@ -158,11 +159,11 @@ no_fault_by_tally calls = (
 
 pub regular_by_tally : RegularByTally
 regular_by_tally es h b =
-    let x = regular_exactly es h b in
+    let x = ordered_regular_exactly es h b in
     (λ t. x.1 (counts_local_to (calls_of es) t), λ r. counts_local_from (calls_of es) (x.0 r))
 
 pub conditions_by_tally : ConditionsByTally
 conditions_by_tally es h b =
-    let x = conditions_exactly es h b in
+    let x = ordered_conditions_exactly es h b in
     let y = no_fault_by_tally (calls_of es) in
     (λ t. x.1 (y.0 t), λ m. y.1 (x.0 m))

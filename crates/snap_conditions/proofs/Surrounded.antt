@@ -6,10 +6,10 @@ use Rattle.std.proofs.lemmas.Bool.{le-ltb, ltb-false, or_from, cases_lt, eq-eqb,
 use Rattle.snap_core.specs.declared.event.Event.{Event}
 use Rattle.snap_core.specs.declared.entry.Entry.{Entry}
 use Rattle.snap_core.specs.Entries.{AreEntries, EntryFits, number_in}
-use Rattle.snap_core.specs.Events.{IsBoundedHistory}
+use Rattle.snap_core.specs.Bounded.{IsBoundedOrdered}
 use Rattle.snap_core.specs.Calls.{Call, calls_of, entries_of, is_before, shown, shown_number}
 use Rattle.snap_core.proofs.Facts.{shown_number_at}
-use Rattle.snap_core.proofs.Histories.{are_calls}
+use Rattle.snap_core.proofs.Ordered.{are_ordered_calls}
 use Rattle.snap_core.proofs.Lists.{In}
 use Rattle.snap_core.proofs.Rising.{entry_at}
 use Rattle.snap_index.specs.IndexedCalls.{value_written}
@@ -44,7 +44,7 @@ some_end None x e l = absurd (omega (arith, e, l))
 some_end (Some p) x e l = ap Some (sym e)
 
 -- an update that ended has a number that fits its type
-pub number_fits : (es : List Event) → IsBoundedHistory es → (j n ended : ℕ) → end_of (update_of (calls_of es) j n) ≡ Some ended → n < 4294967296
+pub number_fits : (es : List Event) → IsBoundedOrdered es → (j n ended : ℕ) → end_of (update_of (calls_of es) j n) ≡ Some ended → n < 4294967296
 number_fits es kept j n ended e = elim (cases_lt n 4294967296) [
   | inl l ↦ l
   | inr l ↦ absurd (let gone : None ≡ Some ended = sym (ap end_of (no_update_past es kept j n (omega (arith, l)))) ∙ e in cc)
@@ -53,7 +53,7 @@ number_fits es kept j n ended e = elim (cases_lt n 4294967296) [
 -- where the updates stand around the view that was looked at last
 
 -- numbers that are the same below a limit have the same updates, for from it on there is none
-same_update : (es : List Event) → IsBoundedHistory es → (limit k m n : ℕ) (next : ℕ → ℕ) → IsLimit (calls_of es) limit → (k < limit → m ≡ n) → k < 256 → update_of (calls_of es) k (next m) ≡ update_of (calls_of es) k (next n)
+same_update : (es : List Event) → IsBoundedOrdered es → (limit k m n : ℕ) (next : ℕ → ℕ) → IsLimit (calls_of es) limit → (k < limit → m ≡ n) → k < 256 → update_of (calls_of es) k (next m) ≡ update_of (calls_of es) k (next n)
 same_update es kept limit k m n next h same b = elim (cases_lt k limit) [
   | inl l ↦ ap (λ z. update_of (calls_of es) k (next z)) (same l)
   | inr l ↦
@@ -61,7 +61,7 @@ same_update es kept limit k m n next h same b = elim (cases_lt k limit) [
       none_of_none es kept k (next m) none ∙ sym (none_of_none es kept k (next n) none)
 ]
 
-pub around_seen : (es : List Event) → IsBoundedHistory es → (r : Call) (updates : ShownAndNext) → IsOfEntries (calls_of es) updates → updates.entries.now ≡ entries_of r.operation → IsOfView (calls_of es) r updates
+pub around_seen : (es : List Event) → IsBoundedOrdered es → (r : Call) (updates : ShownAndNext) → IsOfEntries (calls_of es) updates → updates.entries.now ≡ entries_of r.operation → IsOfView (calls_of es) r updates
 around_seen es kept r updates a same = record {
   limit = a.limit;
   numbers = numbers;
@@ -87,13 +87,13 @@ around_seen es kept r updates a same = record {
 
 -- the tests of a view alone
 
-pub old_around : (es : List Event) → IsBoundedHistory es → (r : Call) (updates : ShownAndNext) (k : ℕ) → IsOfView (calls_of es) r updates → k < 256 → r.begun ≤ 4294967295 → old_fault (calls_of es) r k ≡ nat_lt (get_or updates.ends k 0) r.begun
+pub old_around : (es : List Event) → IsBoundedOrdered es → (r : Call) (updates : ShownAndNext) (k : ℕ) → IsOfView (calls_of es) r updates → k < 256 → r.begun ≤ 4294967295 → old_fault (calls_of es) r k ≡ nat_lt (get_or updates.ends k 0) r.begun
 old_around es kept r updates k a l fits =
-    old_by_place (calls_of es) (are_calls es kept.history) r k ∙ before_end (end_of (update_of (calls_of es) k (suc (shown_number r k)))) r.begun fits ∙ ap (λ z. nat_lt z r.begun) (sym (a.ends k l))
+    old_by_place (calls_of es) (are_ordered_calls es kept.history) r k ∙ before_end (end_of (update_of (calls_of es) k (suc (shown_number r k)))) r.begun fits ∙ ap (λ z. nat_lt z r.begun) (sym (a.ends k l))
 
-pub early_around : (es : List Event) → IsBoundedHistory es → (r : Call) (updates : ShownAndNext) (k : ℕ) → IsOfView (calls_of es) r updates → k < 256 → early_fault (calls_of es) r k ≡ is_before r.ended (get_or updates.begins k 0)
+pub early_around : (es : List Event) → IsBoundedOrdered es → (r : Call) (updates : ShownAndNext) (k : ℕ) → IsOfView (calls_of es) r updates → k < 256 → early_fault (calls_of es) r k ≡ is_before r.ended (get_or updates.begins k 0)
 early_around es kept r updates k a l =
-    early_by_place (calls_of es) (are_calls es kept.history) r k ∙ behind_begin r.ended (begin_of (update_of (calls_of es) k (shown_number r k))) ∙ ap (is_before r.ended) (sym (a.begins k l))
+    early_by_place (calls_of es) (are_ordered_calls es kept.history) r k ∙ behind_begin r.ended (begin_of (update_of (calls_of es) k (shown_number r k))) ∙ ap (is_before r.ended) (sym (a.begins k l))
 
 below : (n a k : ℕ) → In k (range_with_len a n) → k < a + n
 below zero a k i = absurd i
@@ -106,7 +106,7 @@ not_behind None x y l f = refl
 not_behind (Some p) x y l f = le-ltb p x (omega (arith, l, ltb-false p y f))
 
 -- a view that begins before all ends and ends after all begins
-pub none_near : (es : List Event) → IsBoundedHistory es → (r : Call) (updates : ShownAndNext) → IsOfView (calls_of es) r updates → r.begun ≤ 4294967295 → r.begun ≤ updates.earliest → is_before r.ended updates.latest ≡ false →
+pub none_near : (es : List Event) → IsBoundedOrdered es → (r : Call) (updates : ShownAndNext) → IsOfView (calls_of es) r updates → r.begun ≤ 4294967295 → r.begun ≤ updates.earliest → is_before r.ended updates.latest ≡ false →
     part_of (reported_proximity (calls_of es)) (proximity_faults (calls_of es) (r ∷ [])) ≡ no_part
 none_near es kept r updates a fits l f = proximity_alone calls r ∙ ap (part_of (λ k. reported_proximity calls (r, k))) (filter_none (λ k. old_fault calls r k || early_fault calls r k) components not)
   where
@@ -132,7 +132,7 @@ no_later None latest h = tt
 no_later (Some begun) latest h = h
 
 -- where an update that a view misses ends after all begins
-pub none_missed_at : (es : List Event) → IsBoundedHistory es → (r : Call) (updates : ShownAndNext) (j : ℕ) → IsOfView (calls_of es) r updates → AreEntries (entries_of r.operation) → updates.latest ≤ 4294967295 → updates.latest ≤ end_next (calls_of es) r j →
+pub none_missed_at : (es : List Event) → IsBoundedOrdered es → (r : Call) (updates : ShownAndNext) (j : ℕ) → IsOfView (calls_of es) r updates → AreEntries (entries_of r.operation) → updates.latest ≤ 4294967295 → updates.latest ≤ end_next (calls_of es) r j →
     part_of reported_write (missed_at (calls_of es) r j) ≡ no_part
 none_missed_at es kept r updates j a shape fits l =
     none_behind es kept r j (Some updates.latest) shape (λ i m. no_later _ updates.latest (latest i m)) (before_end (end_of (update_of calls j (suc (shown_number r j)))) updates.latest fits ∙ le-ltb (end_next calls r j) updates.latest l)
@@ -150,7 +150,7 @@ empty : {X F : Type 0} (f : X → F) (xs : List X) → part_of f xs ≡ no_part 
 empty f [] h = refl
 empty {X} {F} f (x ∷ xs) h = absurd (omega (arith, ap (λ (p : PartValue F). p.count) h))
 
-pub none_missed_around : (es : List Event) → IsBoundedHistory es → (r : Call) (updates : ShownAndNext) → IsOfView (calls_of es) r updates → AreEntries (entries_of r.operation) → updates.latest ≤ 4294967295 → updates.latest ≤ updates.earliest →
+pub none_missed_around : (es : List Event) → IsBoundedOrdered es → (r : Call) (updates : ShownAndNext) → IsOfView (calls_of es) r updates → AreEntries (entries_of r.operation) → updates.latest ≤ 4294967295 → updates.latest ≤ updates.earliest →
     part_of reported_write (write_faults (calls_of es) (r ∷ [])) ≡ no_part
 none_missed_around es kept r updates a shape fits l =
     let calls = calls_of es in
@@ -159,7 +159,7 @@ none_missed_around es kept r updates a shape fits l =
 
 -- an entry of a view, by the value of the update that it shows
 
-written_of : (es : List Event) → IsBoundedHistory es → (e : Entry) → EntryFits e → (o : Option Call) → update_of (calls_of es) e.component e.number ≡ o → is_written o e ≡ (value_or_none (value_of o) == e.value)
+written_of : (es : List Event) → IsBoundedOrdered es → (e : Entry) → EntryFits e → (o : Option Call) → update_of (calls_of es) e.component e.number ≡ o → is_written o e ≡ (value_or_none (value_of o) == e.value)
 written_of es kept e fits None is = sym (ne_eqb 4294967296 e.value (λ same. omega (arith, same, fits.2)))
 written_of es kept e fits (Some c) is =
     let u = update_found es e.component e.number c is in
@@ -169,7 +169,7 @@ written_of es kept e fits (Some c) is =
     ∙ ap (λ v. v == e.value) (sym (ap value_written u.update.writes))
 
 -- by the value that is kept at its component
-pub written_by_value : (es : List Event) → IsBoundedHistory es → (updates : ShownAndNext) (e : Entry) → IsValueOf (calls_of es) updates e → EntryFits e →
+pub written_by_value : (es : List Event) → IsBoundedOrdered es → (updates : ShownAndNext) (e : Entry) → IsValueOf (calls_of es) updates e → EntryFits e →
     is_written (update_of (calls_of es) e.component e.number) e ≡ (get_or updates.values e.component 0 == e.value)
 written_by_value es kept updates e value fits = written_of es kept e fits (update_of (calls_of es) e.component e.number) refl ∙ ap (λ v. v == e.value) (sym value)
 
@@ -179,7 +179,7 @@ value_around calls r updates e a is fits =
     a.values e.component fits.0 ∙ ap (λ n. value_or_none (value_of (update_of calls e.component n))) (shown_number_at r e.component e is)
 
 -- where their numbers are looked up below the limit, for from it on there is no update
-pub values_around : (es : List Event) → IsBoundedHistory es → (updates : ShownAndNext) (entries : List Entry) → IsLimit (calls_of es) updates.limit → AreAround (calls_of es) updates →
+pub values_around : (es : List Event) → IsBoundedOrdered es → (updates : ShownAndNext) (entries : List Entry) → IsLimit (calls_of es) updates.limit → AreAround (calls_of es) updates →
     ((k : ℕ) → k < updates.limit → get_or updates.numbers k 0 ≡ number_among entries k) → AreEntries entries → All (IsValueOf (calls_of es) updates) entries
 values_around es kept updates entries limit around numbers shape = λ i d l.
     let e = get_or entries i d in

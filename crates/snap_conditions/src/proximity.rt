@@ -1,7 +1,7 @@
 //! The proximity faults of one view.
 ghost use Rattle.std.specs.Prelude.{◌≡◌, ◌<◌, ◌∷◌, [], ◌||◌, List, length};
 ghost use Rattle.snap_core.specs.Calls.{Call as SpecCall, calls_of, views_of};
-ghost use Rattle.snap_core.specs.Events.{IsBoundedHistory};
+ghost use Rattle.snap_core.specs.Bounded.{IsBoundedOrdered};
 ghost use Rattle.snap_core.specs.declared.event.Event.{Event};
 ghost use Rattle.snap_conditions.specs.inside.ShownAndNext.{IsOfView};
 ghost use Rattle.snap_theory.specs.Faults.{proximity_faults, old_fault, early_fault};
@@ -13,13 +13,14 @@ use crate::fault::{ProximityFault, Side};
 use crate::part::Part;
 use crate::shown_and_next::ShownAndNext;
 use crate::updates::is_before;
+use snap_core::Ownership;
 use snap_index::Index;
 use snap_views::SeenView;
 
 // The proximity fault of a view at component k.
 fn proximity_fault(view: &SeenView<'_>, updates: &ShownAndNext<'_>, k: u8) -> Option<ProximityFault>
     requires { k < updates.now.limit }
-    ensures { (es : List Event) (r : SpecCall) → IsBoundedHistory es → IsSeen r view.now → IsOfView (calls_of es) r updates.now → result
+    ensures { (es : List Event) (r : SpecCall) → IsBoundedOrdered es → IsSeen r view.now → IsOfView (calls_of es) r updates.now → result
         ≡ found_at (λ k. reported_proximity (calls_of es) (r, k)) (λ k. old_fault (calls_of es) r k || early_fault (calls_of es) r k) k }
 {
     let place = k as usize;
@@ -39,8 +40,8 @@ fn proximity_fault(view: &SeenView<'_>, updates: &ShownAndNext<'_>, k: u8) -> Op
 }
 
 // The proximity faults of the view at a place.
-pub(crate) fn proximity_part(
-    index: &Index<'_>,
+pub(crate) fn proximity_part<O: Ownership>(
+    index: &Index<'_, O>,
     place: u32,
     view: &SeenView<'_>,
     updates: &ShownAndNext<'_>,
@@ -48,7 +49,7 @@ pub(crate) fn proximity_part(
     requires view { IsSeen (view_in (calls_of index.now) place) view.now }
     requires updates { IsOfView (calls_of index.now) (view_in (calls_of index.now) place) updates.now }
     requires place { place < length (views_of (calls_of index.now)) }
-    requires kept { IsBoundedHistory index.now }
+    requires kept { IsBoundedOrdered index.now }
     ensures { result ≡ part_of (reported_proximity (calls_of index.now)) (proximity_faults (calls_of index.now) (view_in (calls_of index.now) place ∷ [])) }
 {
     let mut part = Part::none();

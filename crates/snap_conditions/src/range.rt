@@ -1,7 +1,7 @@
 //! The tally of a range of views, by pairs of views.
 ghost use Rattle.std.specs.Prelude.{◌≡◌, ◌<◌, ◌≤◌, ◌-◌, ◌∷◌, [], length, take, drop};
 ghost use Rattle.snap_core.specs.Calls.{calls_of, views_of};
-ghost use Rattle.snap_core.specs.Events.{IsBoundedHistory};
+ghost use Rattle.snap_core.specs.Bounded.{IsBoundedOrdered};
 ghost use Rattle.snap_conditions.specs.inside.ShownAndNext.{IsOfEntries};
 ghost use Rattle.snap_conditions.specs.inside.Tallies.{without_more_read};
 ghost use Rattle.snap_views.specs.Seen.{view_in};
@@ -14,20 +14,21 @@ use crate::shown_and_next::ShownAndNext;
 use crate::stale::stale_beside;
 use crate::tally::Tally;
 use crate::write::write_part;
+use snap_core::Ownership;
 use snap_index::Index;
 use snap_views::view_at;
 
 // Adds the faults of the view at a place, except for its read faults and stale views.
 #[tactic(auto, unfolding(crate::specs::Tally::tally_of))]
-fn add_without_read<'i>(
+fn add_without_read<'i, O: Ownership>(
     tally: &mut Tally,
-    index: &'i Index<'_>,
+    index: &'i Index<'_, O>,
     place: u32,
     updates: &mut ShownAndNext<'i>,
 )
     requires before { IsOfEntries (calls_of index.now) updates.old }
     requires place { place < length (views_of (calls_of index.now)) }
-    requires kept { IsBoundedHistory index.now }
+    requires kept { IsBoundedOrdered index.now }
     requires fits { SumsFit tally.old (tally_of (calls_of index.now) (view_in (calls_of index.now) place ∷ [])) }
     ensures numbers { IsOfEntries (calls_of index.now) updates.new }
     ensures tally { tally.new ≡ without_more_read tally.old (tally_of (calls_of index.now) (view_in (calls_of index.now) place ∷ [])) }
@@ -44,10 +45,15 @@ fn add_without_read<'i>(
 
 // Adds the faults of the view at a place.
 #[tactic(auto, unfolding(crate::specs::Tally::tally_of))]
-fn add_view<'i>(tally: &mut Tally, index: &'i Index<'_>, place: u32, updates: &mut ShownAndNext<'i>)
+fn add_view<'i, O: Ownership>(
+    tally: &mut Tally,
+    index: &'i Index<'_, O>,
+    place: u32,
+    updates: &mut ShownAndNext<'i>,
+)
     requires before { IsOfEntries (calls_of index.now) updates.old }
     requires place { place < length (views_of (calls_of index.now)) }
-    requires kept { IsBoundedHistory index.now }
+    requires kept { IsBoundedOrdered index.now }
     requires fits { SumsFit tally.old (tally_of (calls_of index.now) (view_in (calls_of index.now) place ∷ [])) }
     ensures numbers { IsOfEntries (calls_of index.now) updates.new }
     ensures tally { tally.new ≡ merged tally.old (tally_of (calls_of index.now) (view_in (calls_of index.now) place ∷ [])) }
@@ -60,7 +66,7 @@ fn add_view<'i>(tally: &mut Tally, index: &'i Index<'_>, place: u32, updates: &m
 
 /// The faults whose first view is one of the completed views from `from` to `to - 1`. Views are counted from 0 in the order of
 /// call numbers. Each is tested against all views and all updates of the history. It takes no memory.
-pub fn tally_range(index: &Index<'_>, from: u32, to: u32) -> Tally
+pub fn tally_range(index: &Index<'_, impl Ownership>, from: u32, to: u32) -> Tally
     requires order { from ≤ to }
     requires views { to ≤ length (views_of (calls_of index.now)) }
     ensures { result ≡ tally_of (calls_of index.now) (take (to - from) (drop from (views_of (calls_of index.now)))) }
@@ -77,7 +83,7 @@ pub fn tally_range(index: &Index<'_>, from: u32, to: u32) -> Tally
 
 /// The tally of the completed views from `from` to `to - 1`, as `tally_range` gives it, but without read faults and stale views.
 /// It serves if a history has none, or if they are counted elsewhere. It takes no memory.
-pub fn tally_without_read(index: &Index<'_>, from: u32, to: u32) -> Tally
+pub fn tally_without_read(index: &Index<'_, impl Ownership>, from: u32, to: u32) -> Tally
     requires order { from ≤ to }
     requires views { to ≤ length (views_of (calls_of index.now)) }
     ensures { result ≡ without_read (tally_of (calls_of index.now) (take (to - from) (drop from (views_of (calls_of index.now))))) }

@@ -2,7 +2,7 @@
 ghost use Rattle.std.specs.Prelude.{◌≡◌, ◌<◌, ◌∷◌, [], ◌+◌, ◌^◌, Some, IfSome, length, option_map};
 ghost use Rattle.snap_core.specs.Calls.{Call as SpecCall, calls_of, views_of};
 ghost use Rattle.snap_core.specs.Entries.{AreEntries};
-ghost use Rattle.snap_core.specs.Events.{IsBoundedHistory};
+ghost use Rattle.snap_core.specs.Bounded.{IsBoundedOrdered};
 ghost use Rattle.snap_views.specs.Rows.{AreNumbersOf};
 ghost use Rattle.snap_theory.specs.Faults.{read_faults, read_fault};
 ghost use Rattle.snap_conditions.specs.Parts.{noted, part_of};
@@ -13,6 +13,7 @@ use crate::fault::ReadFault;
 use crate::part::Part;
 use crate::row::Row;
 use crate::updates::is_before;
+use snap_core::Ownership;
 use snap_index::Index;
 use snap_views::{SeenView, view_at};
 
@@ -61,9 +62,9 @@ fn note_fault(
 }
 
 // The read faults whose first view is the one at a place.
-pub(crate) fn read_part(index: &Index<'_>, place: u32) -> Part<ReadFault>
+pub(crate) fn read_part<O: Ownership>(index: &Index<'_, O>, place: u32) -> Part<ReadFault>
     requires place { place < length (views_of (calls_of index.now)) }
-    requires kept { IsBoundedHistory index.now }
+    requires kept { IsBoundedOrdered index.now }
     ensures { result ≡ part_of reported_read (read_faults (calls_of index.now) (view_in (calls_of index.now) place ∷ [])) }
 {
     let view = view_at(index, place);
@@ -79,7 +80,7 @@ pub(crate) fn read_part(index: &Index<'_>, place: u32) -> Part<ReadFault>
 }
 
 /// The read fault of the completed views at two places. The first view must show more of some component than the other.
-pub fn read_fault_of(index: &Index<'_>, place: u32, other: u32) -> ReadFault
+pub fn read_fault_of<O: Ownership>(index: &Index<'_, O>, place: u32, other: u32) -> ReadFault
     requires { AreViewPlaces (calls_of index.now) (place, other) }
     ensures { result ≡ reported_read (views_at (calls_of index.now) (place, other)) }
 {

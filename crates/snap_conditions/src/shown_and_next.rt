@@ -3,7 +3,7 @@ ghost use Rattle.std.specs.Prelude.{◌≡◌, ◌≢◌, ◌≤◌, ◌<◌, �
 ghost use Rattle.std.specs.List.{All};
 ghost use Rattle.snap_core.specs.Calls.{Call as SpecCall, calls_of};
 ghost use Rattle.snap_core.specs.Entries.{AreEntries, EntryFits, component_count};
-ghost use Rattle.snap_core.specs.Events.{IsBoundedHistory};
+ghost use Rattle.snap_core.specs.Bounded.{IsBoundedOrdered};
 ghost use Rattle.snap_core.specs.declared.entry.Entry.{Entry as SpecEntry};
 ghost use Rattle.snap_core.specs.declared.event.Event.{Event};
 ghost use Rattle.snap_conditions.specs.inside.ShownAndNext.{AreAround, AreFrom, IsOfEntries, IsOfView, IsValueOf, IsWritten};
@@ -14,7 +14,7 @@ ghost use Rattle.snap_views.specs.Rows.{number_among};
 ghost use Rattle.snap_views.specs.Seen.{IsSeen};
 
 use crate::updates::{begin_of_update, end_of_next, value_of_update};
-use snap_core::{COMPONENT_COUNT, Entry, are_same};
+use snap_core::{COMPONENT_COUNT, Entry, Ownership, are_same};
 use snap_index::Index;
 use snap_views::SeenView;
 
@@ -94,7 +94,7 @@ fn earliest_of(places: &[u32]) -> u32
 }
 
 // A component from which on no component has an update.
-fn component_limit(index: &Index<'_>) -> usize
+fn component_limit<O: Ownership>(index: &Index<'_, O>) -> usize
     ensures { IsLimit (calls_of index.now) result }
 {
     index.update_limit()
@@ -118,8 +118,8 @@ fn take_number(left: &mut &[Entry], k: usize) -> u32
 
 impl<'i> ShownAndNext<'i> {
     // The updates around a view that shows nothing. One value serves for many views, since most show what the view before them showed.
-    pub(crate) fn new(index: &Index<'_>) -> ShownAndNext<'i>
-        requires { IsBoundedHistory index.now }
+    pub(crate) fn new<O: Ownership>(index: &Index<'_, O>) -> ShownAndNext<'i>
+        requires { IsBoundedOrdered index.now }
         ensures { IsOfEntries (calls_of index.now) result }
     {
         let limit = component_limit(index);
@@ -143,7 +143,7 @@ impl<'i> ShownAndNext<'i> {
 
     // Whether an entry is the number and the value of an update. The update of its number must be looked up already.
     pub(crate) fn is_written(&self, entry: Entry) -> bool
-        ensures { (es : List Event) → IsBoundedHistory es → EntryFits entry → IsValueOf (calls_of es) self.now entry
+        ensures { (es : List Event) → IsBoundedOrdered es → EntryFits entry → IsValueOf (calls_of es) self.now entry
             → result ≡ spec_is_written (update_of (calls_of es) entry.component entry.number) entry }
     {
         self.values[usize::from(entry.component)] == u64::from(entry.value)
@@ -151,15 +151,15 @@ impl<'i> ShownAndNext<'i> {
 
     // Whether each entry is the number and the value of an update. The updates of their numbers must be looked up already.
     fn are_written(&self, entries: &[Entry]) -> bool
-        ensures { (es : List Event) → IsBoundedHistory es → All EntryFits entries.now → All (IsValueOf (calls_of es) self.now) entries.now
+        ensures { (es : List Event) → IsBoundedOrdered es → All EntryFits entries.now → All (IsValueOf (calls_of es) self.now) entries.now
             → IsTrue result → All (IsWritten (calls_of es)) entries.now }
     {
         entries.iter().all(|entry| self.is_written(*entry))
     }
 
     // Looks up the updates around a number of component k, if it differs from the number of the last view.
-    fn look_at(&mut self, index: &Index<'_>, k: usize, number: u32)
-        requires kept { IsBoundedHistory index.now }
+    fn look_at<O: Ownership>(&mut self, index: &Index<'_, O>, k: usize, number: u32)
+        requires kept { IsBoundedOrdered index.now }
         requires component { k < component_count }
         requires before { AreAround (calls_of index.now) self.old }
         ensures around { AreAround (calls_of index.now) self.new }
@@ -180,9 +180,9 @@ impl<'i> ShownAndNext<'i> {
     // Looks up the updates around the entries that differ from those of the last view, and answers how the entries compare. If both
     // do not list the same components at the same places, only some are looked up. It tests only the entries that differ, since
     // the others were tested with the last view.
-    fn look_along(&mut self, index: &Index<'_>, entries: &[Entry]) -> Along
+    fn look_along<O: Ownership>(&mut self, index: &Index<'_, O>, entries: &[Entry]) -> Along
         requires before { IsOfEntries (calls_of index.now) self.old }
-        requires kept { IsBoundedHistory index.now }
+        requires kept { IsBoundedOrdered index.now }
         requires entries { AreEntries entries.now }
         ensures around { AreAround (calls_of index.now) self.new }
         ensures numbers { result ≢ Along.Otherwise → (k : ℕ) → k < self.old.limit → get_or self.new.numbers k 0 ≡ number_among entries.now k }
@@ -217,9 +217,9 @@ impl<'i> ShownAndNext<'i> {
 
     // Looks up the updates around entries. If the last view lists the same components, only the entries that differ are looked up.
     // It answers whether the entries differ from those of the last view.
-    fn look_at_entries(&mut self, index: &Index<'_>, entries: &[Entry]) -> bool
+    fn look_at_entries<O: Ownership>(&mut self, index: &Index<'_, O>, entries: &[Entry]) -> bool
         requires before { IsOfEntries (calls_of index.now) self.old }
-        requires kept { IsBoundedHistory index.now }
+        requires kept { IsBoundedOrdered index.now }
         requires entries { AreEntries entries.now }
         ensures around { AreAround (calls_of index.now) self.new }
         ensures numbers { (k : ℕ) → k < self.old.limit → get_or self.new.numbers k 0 ≡ number_among entries.now k }
@@ -243,9 +243,9 @@ impl<'i> ShownAndNext<'i> {
     }
 
     // Looks up the updates around a view, for the components whose number differs from that of the last view.
-    pub(crate) fn look(&mut self, index: &Index<'_>, view: &SeenView<'i>)
+    pub(crate) fn look<O: Ownership>(&mut self, index: &Index<'_, O>, view: &SeenView<'i>)
         requires before { IsOfEntries (calls_of index.now) self.old }
-        requires kept { IsBoundedHistory index.now }
+        requires kept { IsBoundedOrdered index.now }
         requires view { AreEntries view.now.entries.now }
         ensures numbers { IsOfEntries (calls_of index.now) self.new }
         ensures updates { (r : SpecCall) → IsSeen r view.now → IsOfView (calls_of index.now) r self.new }

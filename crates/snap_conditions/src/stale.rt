@@ -2,7 +2,7 @@
 ghost use Rattle.std.specs.Prelude.{◌≡◌, ◌<◌, ◌∷◌, [], length};
 ghost use Rattle.snap_core.specs.Calls.{Call as SpecCall, calls_of, views_of};
 ghost use Rattle.snap_core.specs.Entries.{AreEntries};
-ghost use Rattle.snap_core.specs.Events.{IsBoundedHistory};
+ghost use Rattle.snap_core.specs.Bounded.{IsBoundedOrdered};
 ghost use Rattle.snap_theory.specs.Faults.{is_stale as is_stale_view, read_faults, stale_count as stale_views};
 ghost use Rattle.snap_conditions.specs.Parts.{part_of};
 ghost use Rattle.snap_views.specs.Rows.{AreNumbersOf};
@@ -13,6 +13,7 @@ use crate::fault::ReadFault;
 use crate::part::Part;
 use crate::row::Row;
 use crate::updates::is_before;
+use snap_core::Ownership;
 use snap_index::Index;
 use snap_views::{SeenView, view_at};
 
@@ -27,9 +28,9 @@ fn is_stale(view: &SeenView<'_>, row: &Row, other: &SeenView<'_>) -> bool
 }
 
 // The number of views that are stale to the one at a place.
-fn stale_count(index: &Index<'_>, place: u32) -> u64
+fn stale_count<O: Ownership>(index: &Index<'_, O>, place: u32) -> u64
     requires place { place < length (views_of (calls_of index.now)) }
-    requires kept { IsBoundedHistory index.now }
+    requires kept { IsBoundedOrdered index.now }
     ensures { result ≡ stale_views (calls_of index.now) (view_in (calls_of index.now) place ∷ []) }
 {
     let view = view_at(index, place);
@@ -43,9 +44,13 @@ fn stale_count(index: &Index<'_>, place: u32) -> u64
 }
 
 // The number of stale views, if the read faults of the view at a place are known: without one, no view is stale to it.
-pub(crate) fn stale_beside(index: &Index<'_>, place: u32, read: &Part<ReadFault>) -> u64
+pub(crate) fn stale_beside<O: Ownership>(
+    index: &Index<'_, O>,
+    place: u32,
+    read: &Part<ReadFault>,
+) -> u64
     requires place { place < length (views_of (calls_of index.now)) }
-    requires kept { IsBoundedHistory index.now }
+    requires kept { IsBoundedOrdered index.now }
     requires read { read.now ≡ part_of reported_read (read_faults (calls_of index.now) (view_in (calls_of index.now) place ∷ [])) }
     ensures { result ≡ stale_views (calls_of index.now) (view_in (calls_of index.now) place ∷ []) }
 {

@@ -4,7 +4,7 @@ ghost use Rattle.std.specs.List.{position_or_len};
 ghost use Rattle.std.specs.List.Sorted.{IsNonDecreasing, IsPermutation};
 ghost use Rattle.snap_core.specs.Calls.{calls_of, views_of, shown_number};
 ghost use Rattle.snap_core.specs.Entries.{component_count};
-ghost use Rattle.snap_core.specs.Events.{IsBoundedHistory};
+ghost use Rattle.snap_core.specs.Bounded.{IsBoundedOrdered};
 ghost use Rattle.snap_core.specs.declared.entry.Entry.{Entry};
 ghost use Rattle.snap_conditions.specs.declared.write.TheConstants.{MANY};
 ghost use Rattle.snap_conditions.specs.inside.ShownAndNext.{IsOfView};
@@ -18,7 +18,7 @@ ghost use Rattle.snap_conditions.specs.Tally.{reported_write};
 use crate::fault::WriteFault;
 use crate::part::Part;
 use crate::shown_and_next::ShownAndNext;
-use snap_core::{COMPONENT_COUNT, Entry};
+use snap_core::{COMPONENT_COUNT, Entry, Ownership};
 use snap_index::Index;
 use snap_views::SeenView;
 
@@ -95,8 +95,8 @@ struct Missed {
 
 // The write faults, `count` of them, of the view at a place for one update that it misses. The updates that it shows begin at
 // `begins`.
-fn missed_part(
-    index: &Index<'_>,
+fn missed_part<O: Ownership>(
+    index: &Index<'_, O>,
     place: u32,
     view: &SeenView<'_>,
     begins: &[u32],
@@ -104,7 +104,7 @@ fn missed_part(
     count: u64,
 ) -> Part<WriteFault>
     requires place { place < length (views_of (calls_of index.now)) }
-    requires kept { IsBoundedHistory index.now }
+    requires kept { IsBoundedOrdered index.now }
     requires view { IsSeen (view_in (calls_of index.now) place) view.now }
     requires number { missed.number ≡ shown_number (view_in (calls_of index.now) place) missed.component }
     requires ended { end_of (update_of (calls_of index.now) missed.component (suc missed.number)) ≡ Some missed.ended }
@@ -129,9 +129,9 @@ fn missed_part(
 }
 
 // A part with the write faults for one more update that the view at a place misses. Only the first fault of all is searched for.
-fn with_missed(
+fn with_missed<O: Ownership>(
     part: Part<WriteFault>,
-    index: &Index<'_>,
+    index: &Index<'_, O>,
     place: u32,
     view: &SeenView<'_>,
     begins: &[u32],
@@ -140,7 +140,7 @@ fn with_missed(
 ) -> Part<WriteFault>
     requires few { part.count ≤ 65536 }
     requires place { place < length (views_of (calls_of index.now)) }
-    requires kept { IsBoundedHistory index.now }
+    requires kept { IsBoundedOrdered index.now }
     requires view { IsSeen (view_in (calls_of index.now) place) view.now }
     requires number { missed.number ≡ shown_number (view_in (calls_of index.now) place) missed.component }
     requires ended { end_of (update_of (calls_of index.now) missed.component (suc missed.number)) ≡ Some missed.ended }
@@ -157,8 +157,8 @@ fn with_missed(
 
 // The write faults of the view at a place. The updates that it shows begin at `begins`. The faults are counted among `counted`,
 // the same begins; if there are `MANY`, these are in order.
-fn missed_parts(
-    index: &Index<'_>,
+fn missed_parts<O: Ownership>(
+    index: &Index<'_, O>,
     place: u32,
     view: &SeenView<'_>,
     updates: &ShownAndNext<'_>,
@@ -168,7 +168,7 @@ fn missed_parts(
     requires view { IsSeen (view_in (calls_of index.now) place) view.now }
     requires updates { IsOfView (calls_of index.now) (view_in (calls_of index.now) place) updates.now }
     requires place { place < length (views_of (calls_of index.now)) }
-    requires kept { IsBoundedHistory index.now }
+    requires kept { IsBoundedOrdered index.now }
     requires size { length begins.now ≡ length view.now.entries.now }
     requires begins { (i : ℕ) → i < length view.now.entries.now → get_or begins.now i 0 ≡ begin_or_0 (begin_of_shown (calls_of index.now) view.now.entries.now i) }
     requires same { IsPermutation begins.now counted.now }
@@ -192,8 +192,8 @@ fn missed_parts(
 }
 
 // The write faults of the view at a place.
-pub(crate) fn write_part(
-    index: &Index<'_>,
+pub(crate) fn write_part<O: Ownership>(
+    index: &Index<'_, O>,
     place: u32,
     view: &SeenView<'_>,
     updates: &ShownAndNext<'_>,
@@ -201,7 +201,7 @@ pub(crate) fn write_part(
     requires view { IsSeen (view_in (calls_of index.now) place) view.now }
     requires updates { IsOfView (calls_of index.now) (view_in (calls_of index.now) place) updates.now }
     requires place { place < length (views_of (calls_of index.now)) }
-    requires kept { IsBoundedHistory index.now }
+    requires kept { IsBoundedOrdered index.now }
     ensures { result ≡ part_of reported_write (write_faults (calls_of index.now) (view_in (calls_of index.now) place ∷ [])) }
 {
     // most views have none

@@ -157,15 +157,22 @@ pub record CallAt (calls : List Call) (event : Event) (after : List Event) : Typ
   pub place : ℕ
   pub there : In (call_at number place event after) calls
 
+same_call : (n m place spot : ℕ) (x : Event) (after : List Event) → n ≡ m → place ≡ spot → call_at n place x after ≡ call_at m spot x after
+same_call n m place spot x after e f = ap (λ z. call_at z place x after) e ∙ ap (λ z. call_at m z x after) f
+
+-- the call that begins at an event, by the begins and the events before it
+pub call_placed : (n place m spot : ℕ) (before : List Event) (x : Event) (after : List Event) → IsBegin x → m ≡ n + begins before → spot ≡ place + length before → In (call_at m spot x after) (calls_from n place (before ++ x ∷ after))
+call_placed n place m spot [] (BeginUpdate p e) after i a b = inl (same_call n m place spot (BeginUpdate p e) after (omega (arith, a)) (omega (arith, b)))
+call_placed n place m spot [] (BeginView p) after i a b = inl (same_call n m place spot (BeginView p) after (omega (arith, a)) (omega (arith, b)))
+call_placed n place m spot [] (EndUpdate p) after i a b = absurd i
+call_placed n place m spot [] (EndView p s) after i a b = absurd i
+call_placed n place m spot (BeginUpdate p e ∷ before) x after i a b = inr (call_placed (suc n) (suc place) m spot before x after i (omega (arith, a)) (omega (arith, b)))
+call_placed n place m spot (BeginView p ∷ before) x after i a b = inr (call_placed (suc n) (suc place) m spot before x after i (omega (arith, a)) (omega (arith, b)))
+call_placed n place m spot (EndUpdate p ∷ before) x after i a b = call_placed n (suc place) m spot before x after i (omega (arith, a)) (omega (arith, b))
+call_placed n place m spot (EndView p s ∷ before) x after i a b = call_placed n (suc place) m spot before x after i (omega (arith, a)) (omega (arith, b))
+
 pub call_there : (n place : ℕ) (before : List Event) (x : Event) (after : List Event) → IsBegin x → CallAt (calls_from n place (before ++ x ∷ after)) x after
-call_there n place [] (BeginUpdate p e) after i = record { number = n; place = place; there = inl refl }
-call_there n place [] (BeginView p) after i = record { number = n; place = place; there = inl refl }
-call_there n place [] (EndUpdate p) after i = absurd i
-call_there n place [] (EndView p s) after i = absurd i
-call_there n place (BeginUpdate p e ∷ before) x after i = let r = call_there (suc n) (suc place) before x after i in record { number = r.number; place = r.place; there = inr r.there }
-call_there n place (BeginView p ∷ before) x after i = let r = call_there (suc n) (suc place) before x after i in record { number = r.number; place = r.place; there = inr r.there }
-call_there n place (EndUpdate p ∷ before) x after i = call_there n (suc place) before x after i
-call_there n place (EndView p s ∷ before) x after i = call_there n (suc place) before x after i
+call_there n place before x after i = record { number = n + begins before; place = place + length before; there = call_placed n place (n + begins before) (place + length before) before x after i refl refl }
 
 number_from : (n place : ℕ) (es : List Event) (c : Call) → In c (calls_from n place es) → n ≤ c.number
 number_from n place es c i = let b = begun n place es c i in omega (arith, b.at_number)

@@ -2,7 +2,7 @@
 use Rattle.std.proofs.Common.{◌≡◌, ◌≢◌, ℕ, ◌<◌, ◌≤◌, Bool, true, false, cond, List, [], ◌∷◌, Option, Some, None, refl, sym, ap, ◌∙◌, inl, inr, arith}
 use Rattle.std.specs.Prelude.{◌==◌, find}
 use Rattle.std.specs.List.{Contains}
-use Rattle.std.proofs.lemmas.Bool.{ltb-true, lt-ltb, eqb-true, false≢true, cases_order}
+use Rattle.std.proofs.lemmas.Bool.{ltb-true, lt-ltb, eqb-true, false≢true}
 use Rattle.snap_core.specs.declared.entry.Entry.{Entry}
 use Rattle.snap_core.specs.Calls.{Call, precedes, is_before, entries_of, shown, shown_number, Views}
 use Rattle.snap_core.specs.Entries.{number_in}
@@ -89,11 +89,3 @@ find_in (d ∷ es) k e h = go (d.component == k) refl h (find_in es k e)
 pub shown_in : (r : Call) (k : ℕ) (e : Entry) → shown r k ≡ Some e → In e (entries_of r.operation) × (e.component ≡ k)
 unfolding shown
 shown_in r k e h = find_in (entries_of r.operation) k e h
-
--- of two updates of one component the one with the smaller number begins first
-pub begins_no_later : (calls : List Call) → AreCalls calls → (a b : Call) (d e : Entry) → IsUpdateOf calls a d → IsUpdateOf calls b e → d.component ≡ e.component → d.number ≤ e.number → a.begun ≤ b.begun
-begins_no_later calls f a b d e x y same l = elim (cases_order d.number e.number) [
-  | inl eq ↦ let q : a.begun ≡ b.begun = ap (λ (z : Call). z.begun) (f.one a b d e x y same eq) in omega arith
-  | inr (inl less) ↦ let p = precedes_to a b (f.follows a b d e x y same less) in omega (arith, p.before, f.rises a p.place x.there p.ends)
-  | inr (inr more) ↦ omega arith
-]

@@ -7,7 +7,9 @@ use Rattle.std.proofs.lemmas.List.Elements.{filter-append}
 use Rattle.std.proofs.lemmas.List.Sums.{length-filter}
 use Rattle.snap_core.specs.declared.entry.Entry.{Entry}
 use Rattle.snap_core.specs.Events.{Event, BeginUpdate, BeginView, EndUpdate, EndView, process_of, IsBegin, Ends, TakeTurns, events_of, IsWellFormed, begins_update_of, IsSingleWriter, IsNumbered, IsHistory}
-use Rattle.snap_core.specs.Refusals.{is_begin, has_open, last_event, is_end_of, ends_last, is_busy, is_idle, is_other, is_by_other, has_other_writer, has_other_number, IsAccepted}
+use Rattle.snap_core.specs.declared.writers.Writers.{Writers}
+use Rattle.snap_core.specs.declared.writers.Writers.TheVariants.{One}
+use Rattle.snap_core.specs.Refusals.{is_begin, has_open, last_event, is_end_of, ends_last, is_busy, is_idle, is_other, is_by_other, has_other_writer, has_other_number, IsAccepted, IsAcceptedBy}
 use Rattle.snap_core.proofs.Lists.{In, In-from_Contains, Contains-from_In, In-append_left, In-append_right, In-append_cases, any_from, any_to}
 use Rattle.snap_core.proofs.Begun.{Compared, alike, first, second, compare_splits, not_end}
 
@@ -113,8 +115,8 @@ events_of_other : (p : ℕ) (es : List Event) (e : Event) → (process_of e ≡ 
 events_of_other p es e h = filter-append (λ x. process_of x == p) es (e ∷ []) ∙ ap (λ b. events_of p es ++ cond b (e ∷ []) []) (ne_eqb _ _ h) ∙ append-nil (events_of p es)
 
 -- the turn of the event's process
-turn_accepted : (es : List Event) (e : Event) → IsAccepted es e → TurnAt (events_of (process_of e) es) e
-turn_accepted es e a = turn_from (events_of p es) e None even odd
+turn_accepted : (writers : Writers) (es : List Event) (e : Event) → IsAcceptedBy writers es e → TurnAt (events_of (process_of e) es) e
+turn_accepted writers es e a = turn_from (events_of p es) e None even odd
   where
     p : ℕ
     p = process_of e
@@ -134,16 +136,16 @@ turn_accepted es e a = turn_from (events_of p es) e None even odd
         go false s true t = sym (ap (λ z. ends_last z e) (last_is p None es)) ∙ t
         go false s false t = absurd (false≢true (sym a.not_other ∙ and_from _ _ (not_from_false _ s) (not_from_false _ t)))
 
-well_formed_push : (es : List Event) (e : Event) → IsWellFormed es → IsAccepted es e → IsWellFormed (es ++ e ∷ [])
-well_formed_push es e w a p = go (process_of e == p) refl
+pub well_formed_push : (writers : Writers) (es : List Event) (e : Event) → IsWellFormed es → IsAcceptedBy writers es e → IsWellFormed (es ++ e ∷ [])
+well_formed_push writers es e w a p = go (process_of e == p) refl
   where
     go : (b : Bool) → (process_of e == p) ≡ b → TakeTurns (events_of p (es ++ e ∷ []))
     go true t =
         let h : process_of e ≡ p = eqb-true _ _ t in
-        subst TakeTurns (sym (events_of_push p es e h)) (turn_push (events_of p es) e (w p) (subst (λ q. TurnAt (events_of q es) e) h (turn_accepted es e a)))
+        subst TakeTurns (sym (events_of_push p es e h)) (turn_push (events_of p es) e (w p) (subst (λ q. TurnAt (events_of q es) e) h (turn_accepted writers es e a)))
     go false t = subst TakeTurns (sym (events_of_other p es e (eqb-false _ _ t))) (w p)
 
-well_formed_back : (es : List Event) (e : Event) → IsWellFormed (es ++ e ∷ []) → IsWellFormed es × TurnAt (events_of (process_of e) es) e
+pub well_formed_back : (es : List Event) (e : Event) → IsWellFormed (es ++ e ∷ []) → IsWellFormed es × TurnAt (events_of (process_of e) es) e
 well_formed_back es e w = (rest, (turn_back (events_of (process_of e) es) e (subst TakeTurns (events_of_push (process_of e) es e refl) (w (process_of e)))).1)
   where
     rest : (p : ℕ) → TakeTurns (events_of p es)
@@ -153,7 +155,7 @@ well_formed_back es e w = (rest, (turn_back (events_of (process_of e) es) e (sub
         go true t = (turn_back (events_of p es) e (subst TakeTurns (events_of_push p es e (eqb-true _ _ t)) (w p))).0
         go false t = subst TakeTurns (events_of_other p es e (eqb-false _ _ t)) (w p)
 
-turn_tests : (es : List Event) (e : Event) → TurnAt (events_of (process_of e) es) e → (is_busy es e ≡ false) × (is_idle es e ≡ false) × (is_other es e ≡ false)
+pub turn_tests : (es : List Event) (e : Event) → TurnAt (events_of (process_of e) es) e → (is_busy es e ≡ false) × (is_idle es e ≡ false) × (is_other es e ≡ false)
 turn_tests es e t = go (cases_order (length (events_of p es) % 2) 0)
   where
     p : ℕ
@@ -222,11 +224,11 @@ single_writer_back es e s = (λ p q c d i j same. s p q c d (left (BeginUpdate p
 
 -- the number
 
-nil_split : {X : Type 0} (xs : List X) (x : X) (ys : List X) → [] ≡ xs ++ x ∷ ys → ⊥
+pub nil_split : {X : Type 0} (xs : List X) (x : X) (ys : List X) → [] ≡ xs ++ x ∷ ys → ⊥
 nil_split [] x ys h = cc
 nil_split (z ∷ xs) x ys h = cc
 
-numbered_push : (es : List Event) (e : Event) → IsNumbered es → has_other_number es e ≡ false → IsNumbered (es ++ e ∷ [])
+pub numbered_push : (es : List Event) (e : Event) → IsNumbered es → has_other_number es e ≡ false → IsNumbered (es ++ e ∷ [])
 numbered_push es e n w before after p d split = go (compare_splits es e [] before (BeginUpdate p d) after split)
   where
     go : Compared es e [] before (BeginUpdate p d) after → d.number ≡ suc (count_by (begins_update_of d.component) before)
@@ -236,7 +238,7 @@ numbered_push es e n w before after p d split = go (compare_splits es e [] befor
     go (first mid i j) = absurd (nil_split mid (BeginUpdate p d) after j)
     go (second mid i j) = n before mid p d i
 
-numbered_back : (es : List Event) (e : Event) → IsNumbered (es ++ e ∷ []) → IsNumbered es × (has_other_number es e ≡ false)
+pub numbered_back : (es : List Event) (e : Event) → IsNumbered (es ++ e ∷ []) → IsNumbered es × (has_other_number es e ≡ false)
 numbered_back es e n =
     (λ before after p d s. n before (after ++ e ∷ []) p d (ap (λ z. z ++ e ∷ []) s ∙ append_assoc before (BeginUpdate p d ∷ after) (e ∷ [])), test e refl)
   where
@@ -249,7 +251,7 @@ numbered_back es e n =
 -- a longer list is a history exactly where the shorter is and no refusal applies
 pub history_push : (es : List Event) (e : Event) → IsHistory es → IsAccepted es e → IsHistory (es ++ e ∷ [])
 history_push es e h a = record {
-  well_formed = well_formed_push es e h.well_formed a;
+  well_formed = well_formed_push One es e h.well_formed a;
   single_writer = single_writer_push es e h.single_writer a.writer;
   numbered = numbered_push es e h.numbered a.number;
 }
@@ -260,7 +262,7 @@ history_back es e h =
     let s = single_writer_back es e h.single_writer in
     let n = numbered_back es e h.numbered in
     let t = turn_tests es e w.1 in
-    (record { well_formed = w.0; single_writer = s.0; numbered = n.0 }, record { not_busy = t.0; not_idle = t.1; not_other = t.2; writer = s.1; number = n.1 })
+    (record { well_formed = w.0; single_writer = s.0; numbered = n.0 }, record { not_busy = t.0; not_idle = t.1; not_other = t.2; writer = s.1; number = n.1; order = refl })
 
 pub history_nil : IsHistory []
 history_nil = record {
@@ -268,6 +270,10 @@ history_nil = record {
   single_writer = λ p q c d i j same. absurd (In-from_Contains [] (BeginUpdate p c) i);
   numbered = λ before after p d s. absurd (nil_split before (BeginUpdate p d) after s);
 }
+
+pub last_of_push : (o : Option Event) (xs : List Event) (x : Event) → last_of o (xs ++ x ∷ []) ≡ Some x
+last_of_push o [] x = refl
+last_of_push o (y ∷ xs) x = last_of_push (Some y) xs x
 
 pub last_event_push : (p : ℕ) (o : Option Event) (es : List Event) (e : Event) → last_event p o (es ++ e ∷ []) ≡ cond (process_of e == p) (Some e) (last_event p o es)
 last_event_push p o [] e = refl

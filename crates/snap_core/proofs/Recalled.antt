@@ -1,22 +1,23 @@
--- What the tables say of a history, and of one with one event more.
-use Rattle.std.proofs.Common.{◌≡◌, ◌≤◌, ℕ, suc, ◌+◌, ◌%◌, Bool, true, false, cond, not, ◌&&◌, ◌||◌, List, [], ◌∷◌, ◌++◌, length, Option, Some, None, refl, sym, ap, ◌∙◌, arith}
-use Rattle.std.specs.Prelude.{◌==◌, is_some}
-use Rattle.std.specs.List.{count_by, list_any}
-use Rattle.std.proofs.lemmas.Bool.{eqb-true, not-false}
-use Rattle.std.proofs.lemmas.List.Folds.{list_any-append}
+-- What the tables say of a history.
+use Rattle.std.proofs.Common.{◌≡◌, ◌<◌, ℕ, suc, ◌+◌, ◌%◌, Bool, true, false, not, ◌&&◌, List, [], ◌∷◌, length, Option, Some, None, refl, sym, ap, ◌∙◌, arith}
+use Rattle.std.specs.Prelude.{◌==◌, is_some, nat_le, nat_lt, slice_index_or}
+use Rattle.std.specs.List.{list_any}
+use Rattle.std.proofs.lemmas.Bool.{eq-eqb, false_from_ne_true, not-true, lt-leb, leb-false, lt-ltb, ltb-true, ltb-false, and_parts, and_from}
+use Rattle.snap_core.specs.declared.entry.Entry.{Entry}
+use Rattle.snap_core.specs.declared.event.Begun.TheVariants as begun
 use Rattle.snap_core.specs.declared.tables.Tables.{Tables}
-use Rattle.snap_core.specs.declared.tables.Writer.{Writer}
-use Rattle.snap_core.specs.Events.{Event, BeginUpdate, BeginView, EndUpdate, EndView, process_of, IsBegin, Ends, TakeTurns, events_of, begins_update_of, EventFits, event_cap}
-use Rattle.snap_core.specs.Refusals.{has_open, last_event, is_by_other, is_busy, is_idle, has_other_writer, has_other_number, is_begin, IsAccepted, refusal_of}
-use Rattle.snap_core.specs.inside.Tables.{begun_by, begun_in, call_in, writer_in, count_in, is_written_by_other, Recalls, IsRecalled, writer_by}
-use Rattle.snap_core.proofs.Begun.{count-append}
-use Rattle.snap_core.proofs.Lists.{count-cons}
-use Rattle.snap_core.proofs.Picks.{accepted_none, kept_push}
-use Rattle.snap_core.proofs.Pushes.{last_of, last_is, count_is, last_event_push}
-
-or_none : (b : Bool) → (b || false) ≡ b
-or_none true = refl
-or_none false = refl
+use Rattle.snap_core.specs.declared.writers.Writers.{Writers}
+use Rattle.snap_core.specs.Events.{Event, BeginUpdate, BeginView, EndUpdate, EndView, process_of, IsBegin, Ends, TakeTurns, events_of}
+use Rattle.snap_core.specs.Calls.{Call, calls_of}
+use Rattle.snap_core.specs.Ordered.{IsOrdered}
+use Rattle.snap_core.specs.Refusals.{ends_early, has_open, has_open_below, is_open_below, last_event, is_busy, is_idle, is_begin, writes_below}
+use Rattle.snap_core.specs.Regular.{IsUpdateOf}
+use Rattle.snap_core.specs.inside.Tables.{begun_by, begun_in, call_in, writer_in, count_in, ended_in, is_written_by_other, Recalls, IsRecalled}
+use Rattle.snap_core.proofs.Histories.{earlier_part}
+use Rattle.snap_core.proofs.Lists.{In-from_Contains, Contains-from_In, any_from, any_to}
+use Rattle.snap_core.proofs.OrderedPushes.{is_ordered_by, open_below}
+use Rattle.snap_core.proofs.Pushed.{open_update}
+use Rattle.snap_core.proofs.Pushes.{last_of, last_is, count_is}
 
 -- a process whose last event begins a call has an odd count of events
 
@@ -46,89 +47,82 @@ open_turns [] o t h = h
 open_turns (b ∷ []) o t h = begins b t
 open_turns (b ∷ x ∷ rest) o t h = open_turns rest (Some x) t.1 (ended b x t.0) ∙ two_more (length rest)
 
-open_is : (t : Tables) (es : List Event) (p : ℕ) → IsRecalled t es → is_some (call_in t p) ≡ has_open p es
-open_is t es p r =
-    ap is_some (r.recalls.calls p ∙ ap begun_in (last_is p None es)) ∙ open_turns (events_of p es) None (r.kept.history.well_formed p) refl
+open_is : (writers : Writers) (t : Tables) (es : List Event) (p : ℕ) → IsRecalled writers t es → is_some (call_in t p) ≡ has_open p es
+open_is writers t es p r =
+    ap is_some (r.recalls.calls p ∙ ap begun_in (last_is p None es)) ∙ open_turns (events_of p es) None ((is_ordered_by writers es r.kept.history).well_formed p) refl
     ∙ ap (λ n. n % 2 == 1) (count_is p es)
 
-pub busy_is : (t : Tables) (es : List Event) (e : Event) → IsRecalled t es → (is_begin e && is_some (call_in t (process_of e))) ≡ is_busy es e
-busy_is t es e r = ap (λ b. is_begin e && b) (open_is t es (process_of e) r)
+pub busy_is : (writers : Writers) (t : Tables) (es : List Event) (e : Event) → IsRecalled writers t es → (is_begin e && is_some (call_in t (process_of e))) ≡ is_busy es e
+busy_is writers t es e r = ap (λ b. is_begin e && b) (open_is writers t es (process_of e) r)
 
-pub idle_is : (t : Tables) (es : List Event) (e : Event) → IsRecalled t es → (not (is_begin e) && not (is_some (call_in t (process_of e)))) ≡ is_idle es e
-idle_is t es e r = ap (λ b. not (is_begin e) && not b) (open_is t es (process_of e) r)
+pub idle_is : (writers : Writers) (t : Tables) (es : List Event) (e : Event) → IsRecalled writers t es → (not (is_begin e) && not (is_some (call_in t (process_of e)))) ≡ is_idle es e
+idle_is writers t es e r = ap (λ b. not (is_begin e) && not b) (open_is writers t es (process_of e) r)
+
+-- an end out of order, by the tables
+
+-- an update that an open call of a process is
+open_entry : (o : Option Event) (e : Entry) → begun_in o ≡ Some (begun.Update e) → (q : ℕ) × (o ≡ Some (BeginUpdate q e))
+open_entry None e h = absurd (cc)
+open_entry (Some (BeginUpdate q d)) e h = let same : d ≡ e = cc in (q, ap (λ z. Some (BeginUpdate q z)) same)
+open_entry (Some (BeginView q)) e h = absurd (cc)
+open_entry (Some (EndUpdate q)) e h = absurd (cc)
+open_entry (Some (EndView q s)) e h = absurd (cc)
+
+-- where the open call of the process is no update, its end is not early
+pub no_update_early : (writers : Writers) (t : Tables) (es : List Event) (p : ℕ) → IsRecalled writers t es → ((e : Entry) → call_in t p ≡ Some (begun.Update e) → ⊥) → ends_early es (EndUpdate p) ≡ false
+no_update_early writers t es p r n = go (last_event p None es) (r.recalls.calls p)
+  where
+    go : (o : Option Event) → call_in t p ≡ begun_in o → has_open_below (calls_of es) o ≡ false
+    go None h = refl
+    go (Some (BeginUpdate q e)) h = absurd (n e h)
+    go (Some (BeginView q)) h = refl
+    go (Some (EndUpdate q)) h = refl
+    go (Some (EndView q s)) h = refl
+
+-- an update ends early exactly if the one numbered one above those that ended is below it
+pub early_is : (writers : Writers) (t : Tables) (es : List Event) (p : ℕ) (e : Entry) → IsRecalled writers t es → call_in t p ≡ Some (begun.Update e) → ends_early es (EndUpdate p) ≡ nat_lt (ended_in (writer_in t e.component) + 1) e.number
+early_is writers t es p e r h =
+    let o = open_entry (last_event p None es) e (sym (r.recalls.calls p) ∙ h) in
+    ap (has_open_below (calls_of es)) o.1 ∙ sides (nat_lt (m + 1) e.number) refl o
+  where
+    m : ℕ
+    m = ended_in (writer_in t e.component)
+
+    ordered : IsOrdered es
+    ordered = is_ordered_by writers es r.kept.history
+
+    sides : (b : Bool) → nat_lt (m + 1) e.number ≡ b → (q : ℕ) × (last_event p None es ≡ Some (BeginUpdate q e)) → list_any (is_open_below e) (calls_of es) ≡ nat_lt (m + 1) e.number
+    sides true l o =
+        let less = ltb-true (m + 1) e.number l in
+        let b = open_update es (EndUpdate p) p o.0 e refl o.1 in
+        let f = earlier_part es ordered.numbered b.call e (m + 1) b.update (omega arith) (omega (arith, less)) in
+        let g = ends_at f.call f.entry f.update f.component (omega (arith, f.number)) in
+        any_from (is_open_below e) (calls_of es) f.call (In-from_Contains _ _ f.update.there)
+        (and_from _ _ (ap (λ z. writes_below z e) f.update.writes ∙ and_from _ _ (eq-eqb _ _ f.component) (lt-ltb f.entry.number e.number (omega (arith, f.number, less)))) (ap not g))
+        ∙ sym l
+      where
+        ends_at : (c : Call) (d : Entry) → IsUpdateOf (calls_of es) c d → d.component ≡ e.component → m < d.number → is_some c.ended ≡ false
+        ends_at c d u same more = r.recalls.ended c d u ∙ ap (λ z. nat_le d.number (ended_in (writer_in t z))) same ∙ lt-leb d.number m more
+    sides false l o = false_from_ne_true _ none ∙ sym l
+      where
+        none : list_any (is_open_below e) (calls_of es) ≡ true → ⊥
+        none t' =
+            let z = any_to (is_open_below e) (calls_of es) t' in
+            let parts = and_parts _ _ z.passes in
+            let d = open_below z.it.operation e parts.0 in
+            let u : IsUpdateOf (calls_of es) z.it d.0 = record { there = Contains-from_In _ _ z.there; writes = d.1 } in
+            let pending : is_some z.it.ended ≡ false = not-true _ parts.1 in
+            let more : m < d.0.number = leb-false d.0.number m (sym (ap (λ z. nat_le d.0.number (ended_in (writer_in t z))) d.2) ∙ sym (r.recalls.ended z.it d.0 u) ∙ pending) in
+            let few = ltb-false (m + 1) e.number l in
+            omega (arith, more, few, d.3)
 
 -- the tables of the history without events
-
--- tables that say the same
-
-pub recalls_same : (t u : Tables) (es : List Event) → ((p : ℕ) → call_in u p ≡ call_in t p) → ((k : ℕ) → writer_in u k ≡ writer_in t k) → Recalls t es → Recalls u es
-recalls_same t u es a b r = record {
-  calls = λ p. a p ∙ r.calls p;
-  counts = λ k. ap count_in (b k) ∙ r.counts k;
-  writers = λ k p. ap (is_written_by_other p) (b k) ∙ r.writers k p;
-}
-
--- the tables after one event more
-
-begun_cond : (b : Bool) (e : Event) (o : Option Event) → cond b (begun_by e) (begun_in o) ≡ begun_in (cond b (Some e) o)
-begun_cond true e o = refl
-begun_cond false e o = refl
-
-count_push : (k : ℕ) (es : List Event) (e : Event) → count_by (begins_update_of k) (es ++ e ∷ []) ≡ count_by (begins_update_of k) es + cond (begins_update_of k e) 1 0
-count_push k es e = omega (arith, count-append k es (e ∷ []), count-cons (begins_update_of k) e [])
-
-any_push : (p k : ℕ) (es : List Event) (e : Event) → list_any (is_by_other p k) (es ++ e ∷ []) ≡ (list_any (is_by_other p k) es || is_by_other p k e)
-any_push p k es e = list_any-append (is_by_other p k) es (e ∷ []) ∙ ap (λ b. list_any (is_by_other p k) es || b) (or_none (is_by_other p k e))
-
-count_after : (k : ℕ) (es : List Event) (e : Event) (w : Option Writer) → count_in w ≡ count_by (begins_update_of k) es → has_other_number es e ≡ false
-    → count_in (writer_by (process_of e) (begun_by e) k w) ≡ count_by (begins_update_of k) es + cond (begins_update_of k e) 1 0
-count_after k es (BeginUpdate q d) w h n = go (d.component == k) refl
-  where
-    number : d.number ≡ suc (count_by (begins_update_of d.component) es)
-    number = eqb-true _ _ (not-false _ n)
-
-    go : (b : Bool) → (d.component == k) ≡ b → count_in (cond b (Some (record { process = q; count = d.number })) w) ≡ count_by (begins_update_of k) es + cond b 1 0
-    go true t = let same = ap (λ z. count_by (begins_update_of z) es) (eqb-true _ _ t) in omega (arith, number, same)
-    go false t = omega (arith, h)
-count_after k es (BeginView q) w h n = omega (arith, h)
-count_after k es (EndUpdate q) w h n = omega (arith, h)
-count_after k es (EndView q z) w h n = omega (arith, h)
-
-or_same : (b : Bool) → (b || b) ≡ b
-or_same true = refl
-or_same false = refl
-
--- a writer that is no other process is this one
-one_writer : (w : Option Writer) (q p : ℕ) → is_written_by_other q w ≡ false → not (q == p) ≡ (is_written_by_other p w || not (q == p))
-one_writer None q p h = refl
-one_writer (Some w) q p h = let same : w.process ≡ q = eqb-true _ _ (not-false _ h) in rw same (sym (or_same (not (q == p))))
-
-writer_after : (p k : ℕ) (es : List Event) (e : Event) (w : Option Writer) → ((q : ℕ) → is_written_by_other q w ≡ list_any (is_by_other q k) es) → has_other_writer es e ≡ false
-    → is_written_by_other p (writer_by (process_of e) (begun_by e) k w) ≡ (is_written_by_other p w || is_by_other p k e)
-writer_after p k es (BeginUpdate q d) w h n = go (d.component == k) refl
-  where
-    go : (b : Bool) → (d.component == k) ≡ b → is_written_by_other p (cond b (Some (record { process = q; count = d.number })) w) ≡ (is_written_by_other p w || (b && not (q == p)))
-    go true t = one_writer w q p (h q ∙ ap (λ z. list_any (is_by_other q z) es) (sym (eqb-true _ _ t)) ∙ n)
-    go false t = sym (or_none (is_written_by_other p w))
-writer_after p k es (BeginView q) w h n = sym (or_none (is_written_by_other p w))
-writer_after p k es (EndUpdate q) w h n = sym (or_none (is_written_by_other p w))
-writer_after p k es (EndView q z) w h n = sym (or_none (is_written_by_other p w))
-
-pub recalls_push : (t u : Tables) (es : List Event) (e : Event) → Recalls t es → IsAccepted es e
-    → ((p : ℕ) → call_in u p ≡ cond (process_of e == p) (begun_by e) (call_in t p))
-    → ((k : ℕ) → writer_in u k ≡ writer_by (process_of e) (begun_by e) k (writer_in t k)) → Recalls u (es ++ e ∷ [])
-recalls_push t u es e r a f g = record {
-  calls = λ p. f p ∙ ap (cond (process_of e == p) (begun_by e)) (r.calls p) ∙ begun_cond (process_of e == p) e (last_event p None es) ∙ ap begun_in (sym (last_event_push p None es e));
-  counts = λ k. ap count_in (g k) ∙ count_after k es e (writer_in t k) (r.counts k) a.number ∙ sym (count_push k es e);
-  writers = λ k p. ap (is_written_by_other p) (g k) ∙ writer_after p k es e (writer_in t k) (λ q. r.writers k q) a.writer
-      ∙ ap (λ b. b || is_by_other p k e) (r.writers k p) ∙ sym (any_push p k es e);
-}
-
-pub recalled_push : (limit : ℕ) (t u v : Tables) (es : List Event) (e : Event) → limit ≤ event_cap → IsRecalled t es → refusal_of limit es e ≡ None → EventFits e
-    → ((p : ℕ) → call_in u p ≡ call_in t p) → ((k : ℕ) → writer_in u k ≡ writer_in t k)
-    → ((p : ℕ) → call_in v p ≡ cond (process_of e == p) (begun_by e) (call_in u p))
-    → ((k : ℕ) → writer_in v k ≡ writer_by (process_of e) (begun_by e) k (writer_in u k)) → IsRecalled v (es ++ e ∷ [])
-recalled_push limit t u v es e m r h fits a b f g = record {
-  kept = kept_push limit es e m r.kept h fits;
-  recalls = recalls_push u v es e (recalls_same t u es a b r.recalls) (accepted_none limit es e h).0 f g;
+pub none_recalled : (writers : Writers) (t : Tables) → t.calls.items ≡ [] → t.writers.items ≡ [] → Recalls writers t []
+unfolding calls_of
+none_recalled writers t calls rows = record {
+  calls = λ p. ap (λ z. slice_index_or z p None) calls;
+  counts = λ k. ap (λ z. count_in (slice_index_or z k None)) rows;
+  writer = λ o k p. ap (λ z. is_written_by_other p (slice_index_or z k None)) rows;
+  ended = λ c e i. absurd (In-from_Contains [] c i.there);
+  few = λ k. omega (arith, ap (λ z. ended_in (slice_index_or z k None)) rows);
 }

@@ -3,7 +3,8 @@ use Rattle.std.proofs.Common.{◌≡◌, ◌&&◌, Bool, true, List, [], ◌∷�
 use Rattle.std.specs.Prelude.{is_none}
 use Rattle.std.proofs.lemmas.Bool.{false≢true}
 use Rattle.snap_core.specs.declared.history.EventRefusal.{EventRefusal}
-use Rattle.snap_core.specs.Events.{Event, BeginUpdate, BeginView, EndUpdate, IsHistory, IsWellFormed, IsSingleWriter, IsNumbered, event_cap}
+use Rattle.snap_core.specs.Events.{Event, BeginUpdate, BeginView, EndUpdate, IsHistory, IsWellFormed, IsSingleWriter, IsNumbered}
+use Rattle.snap_core.specs.UsualLimits.{greatest_limit}
 use Rattle.snap_core.specs.Refusals.{refusal_of}
 use Rattle.snap_core.proofs.Lists.{Contains-from_In}
 use Rattle.snap_core.proofs.Picks.{accepted_none}
@@ -14,16 +15,16 @@ use Rattle.snap_core.proofs.Worked.{entry}
 -- no event meets a refusal after those before it
 are_taken : List Event → List Event → Bool
 are_taken before [] = true
-are_taken before (e ∷ es) = is_none (refusal_of event_cap before e) && are_taken (before ++ e ∷ []) es
+are_taken before (e ∷ es) = is_none (refusal_of greatest_limit before e) && are_taken (before ++ e ∷ []) es
 
 taken_behind : (before es : List Event) → IsHistory before → are_taken before es ≡ true → IsHistory (before ++ es)
 unfolding are_taken
 taken_behind before [] h t = subst IsHistory (sym (append-nil before)) h
-taken_behind before (e ∷ es) h t = go (refusal_of event_cap before e) refl (λ g u. taken_behind (before ++ e ∷ []) es g u) t
+taken_behind before (e ∷ es) h t = go (refusal_of greatest_limit before e) refl (λ g u. taken_behind (before ++ e ∷ []) es g u) t
   where
-    go : (o : Option EventRefusal) → refusal_of event_cap before e ≡ o → (IsHistory (before ++ e ∷ []) → are_taken (before ++ e ∷ []) es ≡ true → IsHistory ((before ++ e ∷ []) ++ es))
+    go : (o : Option EventRefusal) → refusal_of greatest_limit before e ≡ o → (IsHistory (before ++ e ∷ []) → are_taken (before ++ e ∷ []) es ≡ true → IsHistory ((before ++ e ∷ []) ++ es))
         → (is_none o && are_taken (before ++ e ∷ []) es) ≡ true → IsHistory (before ++ e ∷ es)
-    go None r rest u = subst IsHistory (append_assoc before (e ∷ []) es) (rest (history_push before e h (accepted_none event_cap before e r).0) u)
+    go None r rest u = subst IsHistory (append_assoc before (e ∷ []) es) (rest (history_push before e h (accepted_none greatest_limit before e r).0) u)
     go (Some r) q rest u = absurd (false≢true u)
 
 taken : (es : List Event) → are_taken [] es ≡ true → IsHistory es

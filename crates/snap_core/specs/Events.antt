@@ -1,5 +1,5 @@
 -- When a list of events is a history. A clause sees the view of an event as the list of its entries.
-use Rattle.std.specs.Prelude.{ℕ, suc, Bool, false, List, [], ◌∷◌, ◌++◌, ◌≡◌, ◌==◌, filter, count_by, Contains, ⊤, ◌≤◌, ◌<◌, length, All}
+use Rattle.std.specs.Prelude.{ℕ, suc, Bool, false, List, [], ◌∷◌, ◌++◌, ◌≡◌, ◌==◌, filter, count_by, Contains, ⊤, ◌<◌, All}
 use Rattle.snap_core.specs.declared.entry.Entry.{Entry}
 use Rattle.snap_core.specs.Entries.{HasByteComponent, EntryFits, AreEntries}
 use Rattle.snap_core.specs.declared.history.TheConstants.{EVENT_CAP}
@@ -76,9 +76,3 @@ EventFits (EndView p es) = (p < 65536) × AreEntries es
 -- the greatest number of events of a `History`
 abbrev pub event_cap : ℕ
 event_cap = EVENT_CAP
-
--- what a `History` keeps: the three properties, its length, and fields as their types have them
-pub record IsBoundedHistory (es : List Event) : Type 0 where
-  pub history : IsHistory es
-  pub short : length es ≤ event_cap
-  pub fit : All EventFits es

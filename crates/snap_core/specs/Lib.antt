@@ -4,6 +4,8 @@ pub mod Events
 pub mod Calls
 pub mod Orders
 pub mod Regular
+pub mod Ordered
+pub mod Bounded
 pub mod Monotone
 pub mod Refusals
 pub mod Laws
@@ -11,5 +13,6 @@ pub mod Counting
 pub mod Sending
 pub mod Sums
 pub mod Limits
+pub mod UsualLimits
 pub mod Limited
 pub mod inside

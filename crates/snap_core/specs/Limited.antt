@@ -1,8 +1,9 @@
 -- What contracts see of a history.
-use Rattle.std.specs.Prelude.{ℕ, List}
+use Rattle.std.specs.Prelude.{List}
 use Rattle.snap_core.specs.declared.event.Event.{Event}
+use Rattle.snap_core.specs.declared.limit.Limit.{Limit}
 
--- its events, and its limit of events
+-- its events and its limit
 pub record LimitedEvents : Type 0 where
   pub events : List Event
-  pub limit : ℕ
+  pub limit : Limit

@@ -1,8 +1,13 @@
--- When an event is refused after a list of events, by counts over the whole list.
-use Rattle.std.specs.Prelude.{ℕ, suc, ◌%◌, Bool, true, false, not, ◌&&◌, List, [], ◌∷◌, ◌≡◌, ◌==◌, count_by, Option, Some, None, if◌then◌else◌, nat_le, length}
+-- When an event is refused after a list of events, by counts over the whole list and its calls.
+use Rattle.std.specs.Prelude.{ℕ, suc, ◌%◌, Bool, true, false, not, ◌&&◌, List, [], ◌∷◌, ◌≡◌, ◌==◌, count_by, Option, Some, None, is_some, if◌then◌else◌, nat_le, nat_lt, length}
 use Rattle.std.specs.List.{list_any}
 use Rattle.snap_core.specs.declared.history.EventRefusal.{EventRefusal}
-use Rattle.snap_core.specs.declared.history.EventRefusal.TheVariants.{TooMany, Busy, Idle, OtherOp, Writer, Number}
+use Rattle.snap_core.specs.declared.history.EventRefusal.TheVariants.{TooMany, Busy, Idle, OtherOp, Writer, Number, Order}
+use Rattle.snap_core.specs.declared.entry.Entry.{Entry}
+use Rattle.snap_core.specs.declared.limit.Limit.{Limit}
+use Rattle.snap_core.specs.declared.writers.Writers.{Writers}
+use Rattle.snap_core.specs.declared.writers.Writers.TheVariants.{One, Many}
+use Rattle.snap_core.specs.Calls.{Call, Operation, Updates, Views, calls_of}
 use Rattle.snap_core.specs.Events.{Event, BeginUpdate, BeginView, EndUpdate, EndView, process_of, begins_update_of}
 
 abbrev pub is_begin : Event → Bool
@@ -56,21 +61,55 @@ abbrev pub has_other_number : List Event → Event → Bool
 has_other_number es (BeginUpdate p e) = not (e.number == suc (count_by (begins_update_of e.component) es))
 has_other_number es _ = false
 
--- no refusal applies
-pub record IsAccepted (es : List Event) (e : Event) : Type 0 where
+abbrev pub writes_below : Operation → Entry → Bool
+writes_below (Updates d) e = (d.component == e.component) && nat_lt d.number e.number
+writes_below (Views answer) e = false
+
+-- a pending update of an entry's component with a lower number
+abbrev pub is_open_below : Entry → Call → Bool
+is_open_below e c = writes_below c.operation e && not (is_some c.ended)
+
+-- some call overtook the end of what was begun: a lower number of its component has not ended
+abbrev pub has_open_below : List Call → Option Event → Bool
+has_open_below calls (Some (BeginUpdate p e)) = list_any (is_open_below e) calls
+has_open_below calls _ = false
+
+-- the end of an update before that of a lower number of its component
+abbrev pub ends_early : List Event → Event → Bool
+ends_early es (EndUpdate p) = has_open_below (calls_of es) (last_event p None es)
+ends_early es _ = false
+
+-- where a component has one writer: an update by another process
+abbrev pub breaks_writer : Writers → List Event → Event → Bool
+breaks_writer One es e = has_other_writer es e
+breaks_writer Many es e = false
+
+-- where a component has many writers: an end out of order. With one writer there is none
+abbrev pub breaks_order : Writers → List Event → Event → Bool
+breaks_order One es e = false
+breaks_order Many es e = ends_early es e
+
+-- no refusal applies where so many processes may write a component
+pub record IsAcceptedBy (writers : Writers) (es : List Event) (e : Event) : Type 0 where
   pub not_busy : is_busy es e ≡ false
   pub not_idle : is_idle es e ≡ false
   pub not_other : is_other es e ≡ false
-  pub writer : has_other_writer es e ≡ false
+  pub writer : breaks_writer writers es e ≡ false
   pub number : has_other_number es e ≡ false
+  pub order : breaks_order writers es e ≡ false
 
--- the first refusal that applies to a history of at most `limit` events, lack of memory aside
-unfoldable pub refusal_of : ℕ → List Event → Event → Option EventRefusal
+-- no refusal applies where each component has one writer
+abbrev pub IsAccepted : List Event → Event → Type 0
+IsAccepted = IsAcceptedBy One
+
+-- the first refusal that applies to a history with this limit, lack of memory aside
+unfoldable pub refusal_of : Limit → List Event → Event → Option EventRefusal
 refusal_of limit es e =
-    if nat_le limit (length es) then Some TooMany
+    if nat_le limit.events (length es) then Some TooMany
     else if is_busy es e then Some Busy
     else if is_idle es e then Some Idle
     else if is_other es e then Some OtherOp
-    else if has_other_writer es e then Some Writer
+    else if breaks_writer limit.writers es e then Some Writer
     else if has_other_number es e then Some Number
+    else if breaks_order limit.writers es e then Some Order
     else None

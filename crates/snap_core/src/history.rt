@@ -1,15 +1,19 @@
 //! Histories, and why an event is refused.
 ghost use Rattle.std.specs.Prelude.{◌≡◌, ◌≤◌, ◌⊎◌, ◌↔◌, [], ◌∷◌, ◌++◌, length, OnOk, OnErr, IfErr, IsTrue, slice_get};
 ghost use Rattle.std.specs.Option.{option_copied};
-ghost use Rattle.snap_core.specs.Events.{IsBoundedHistory, event_cap};
-ghost use Rattle.snap_core.specs.Limits.{event_limit};
-ghost use Rattle.snap_core.specs.Refusals.{refusal_of};
+ghost use Rattle.snap_core.specs.Bounded.{IsAtMost, IsBoundedBy, IsBoundedOrdered};
+ghost use Rattle.snap_core.specs.Events.{event_cap};
+ghost use Rattle.snap_core.specs.UsualLimits.{one_writer, usual_limit};
+ghost use Rattle.snap_core.specs.declared.writers.Writers.TheVariants.{One};
+ghost use Rattle.snap_core.specs.Refusals.{breaks_writer as spec_breaks_writer, breaks_order as spec_breaks_order, refusal_of};
 
 use crate::event::Event;
 use crate::limit::Limit;
+use crate::ownership::{AnyWriters, OneWriter, Ownership};
 use crate::tables::Tables;
+use crate::writers::Writers;
 use std::alloc::Global;
-use std::marker::Model;
+use std::marker::{Model, PhantomData};
 
 /// The greatest number of events of a history, whatever limit a caller chooses.
 pub const EVENT_CAP: usize = 1_048_576;
@@ -29,58 +33,117 @@ pub enum EventRefusal {
     Writer,
     /// An update whose number is not the next of its component.
     Number,
+    /// An end of an update before that of a lower number of its component. Only where a component has many writers.
+    Order,
     /// Memory ran out.
     Memory,
 }
 
-/// A list of events in which each process alternates begins and ends of calls. Each component has one writer, and its updates are
-/// numbered 1, 2, 3 by their begins. The list has at most as many events as its limit.
+/// A list of events in which each process alternates begins and ends of calls. The updates of a component are numbered 1, 2, 3
+/// by their begins. Each component has one writer. On a board of `AnyWriters` each process may write it, if the limit says so: then its
+/// updates may overlap, and they end in the order of their numbers. The list has at most as many events as its limit.
 #[derive(Drop)]
-pub struct History {
+pub struct History<O: Ownership = OneWriter> {
     events: Vec<Event>,
     tables: Tables,
     limit: Limit,
+    board: PhantomData<O>,
 }
 
-impl Model for History {
+impl<O: Ownership> Model for History<O> {
     ghost use Rattle.std.specs.Prelude.{◌≤◌, length};
     ghost use Rattle.snap_core.specs.Limited.{LimitedEvents};
 
     ghost Value = { LimitedEvents };
 
+    ghost use Rattle.snap_core.specs.Bounded.{IsAtMost};
     ghost use Rattle.snap_core.specs.inside.Tables.{IsRecalled};
 
-    ghost view = { λ h. record { events = h.events.items; limit = h.limit.events } };
+    ghost view = { λ h. record { events = h.events.items; limit = h.limit } };
 
-    ghost invariant = { λ h. IsRecalled h.tables h.events.items × (length h.events.items ≤ h.limit.events) };
+    ghost invariant = { λ h. IsRecalled h.limit.writers h.tables h.events.items × (length h.events.items ≤ h.limit.events) × IsAtMost O.writers h.limit.writers };
 }
 
 impl History {
     /// The history without events, with the usual limit. It takes no memory.
     pub fn new(alloc: Global) -> History
         ensures events { result.events ≡ [] }
-        ensures limit { result.limit ≡ event_limit }
+        ensures limit { result.limit ≡ usual_limit }
     {
-        History::with_limit(alloc, Limit::usual())
+        History {
+            events: Vec::new(alloc),
+            tables: Tables::new(alloc),
+            limit: Limit::usual(),
+            board: PhantomData,
+        }
     }
 
-    /// The history without events, with this limit. It takes no memory.
+    /// The history without events, with this limit of events, and one writer of each component. It takes no memory.
     pub fn with_limit(alloc: Global, limit: Limit) -> History
         ensures events { result.events ≡ [] }
-        ensures limit { result.limit ≡ limit.events }
+        ensures limit { result.limit ≡ one_writer limit }
+    {
+        History {
+            events: Vec::new(alloc),
+            tables: Tables::new(alloc),
+            limit: Limit {
+                events: limit.events,
+                writers: Writers::One,
+            },
+            board: PhantomData,
+        }
+    }
+}
+
+impl History<AnyWriters> {
+    /// The history without events, with this limit. It takes no memory.
+    pub fn of_any(alloc: Global, limit: Limit) -> History<AnyWriters>
+        ensures events { result.events ≡ [] }
+        ensures limit { result.limit ≡ limit }
     {
         History {
             events: Vec::new(alloc),
             tables: Tables::new(alloc),
             limit,
+            board: PhantomData,
+        }
+    }
+
+    /// The same history, where the type says that each component has one writer. The limit must say so too.
+    pub fn into_one(self) -> History
+        requires writers { self.limit.writers ≡ One }
+        ensures { result ≡ self }
+    {
+        self.on_board()
+    }
+}
+
+impl<O: Ownership> History<O> {
+    /// The same history, where the type doesn't say how many writers a component has.
+    pub fn into_any(self) -> History<AnyWriters>
+        ensures { result ≡ self }
+    {
+        self.on_board()
+    }
+
+    // The same history, whose type allows as many writers as its limit.
+    fn on_board<B: Ownership>(self) -> History<B>
+        requires { IsAtMost B.writers self.limit.writers }
+        ensures { result ≡ self }
+    {
+        History {
+            events: self.events,
+            tables: self.tables,
+            limit: self.limit,
+            board: PhantomData,
         }
     }
 
     /// The number of its events, at most its limit.
     pub fn len(&self) -> usize
         ensures len { result ≡ length self.now.events }
-        ensures limit { result ≤ self.now.limit }
-        ensures cap { self.now.limit ≤ event_cap }
+        ensures limit { result ≤ self.now.limit.events }
+        ensures cap { self.now.limit.events ≤ event_cap }
     {
         let _limit = self.limit.events();
         self.events.len()
@@ -88,7 +151,7 @@ impl History {
 
     /// Whether it has as many events as its limit.
     pub fn is_full(&self) -> bool
-        ensures { IsTrue result ↔ (self.now.limit ≤ length self.now.events) }
+        ensures { IsTrue result ↔ (self.now.limit.events ≤ length self.now.events) }
     {
         self.events.len() >= self.limit.events()
     }
@@ -103,7 +166,9 @@ impl History {
     /// The events in their order.
     pub fn events(&self) -> &[Event]
         ensures events { result.now ≡ self.now.events }
-        ensures history { IsBoundedHistory self.now.events }
+        ensures history { IsBoundedBy O.writers self.now.events }
+        ensures limited { IsBoundedBy self.now.limit.writers self.now.events }
+        ensures ordered { IsBoundedOrdered self.now.events }
     {
         &self.events
     }
@@ -147,12 +212,34 @@ impl History {
             Some(EventRefusal::Idle)
         } else if self.tables.is_other(event) {
             Some(EventRefusal::OtherOp)
-        } else if self.tables.has_other_writer(event) {
+        } else if self.breaks_writer(event) {
             Some(EventRefusal::Writer)
         } else if self.tables.has_other_number(event) {
             Some(EventRefusal::Number)
+        } else if self.breaks_order(event) {
+            Some(EventRefusal::Order)
         } else {
             None
+        }
+    }
+
+    // Whether a component has one writer, and an event begins an update of it by another process.
+    fn breaks_writer(&self, event: &Event) -> bool
+        ensures { result ≡ spec_breaks_writer self.now.limit.writers self.now.events event.now }
+    {
+        match self.limit.writers() {
+            Writers::One => self.tables.has_other_writer(event),
+            Writers::Many => false,
+        }
+    }
+
+    // Whether a component has many writers, and an event ends an update of it out of order.
+    fn breaks_order(&self, event: &Event) -> bool
+        ensures { result ≡ spec_breaks_order self.now.limit.writers self.now.events event.now }
+    {
+        match self.limit.writers() {
+            Writers::One => false,
+            Writers::Many => self.tables.ends_early(event),
         }
     }
 }

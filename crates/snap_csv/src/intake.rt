@@ -7,7 +7,7 @@ ghost use Rattle.snap_csv.specs.Answers.{Counts};
 ghost use Rattle.snap_csv.specs.inside.Intake.{TakesIn};
 ghost use Rattle.snap_plain.specs.Lines.{IsPlain};
 ghost use Rattle.snap_core.specs.Events.{event_cap};
-ghost use Rattle.snap_format.specs.Texts.{bytes_within};
+ghost use Rattle.snap_format.specs.Texts.{bytes_cap, bytes_within};
 
 use snap_core::{Counted, Limit};
 use snap_format::{ReadRefusal, bytes_within};
@@ -24,7 +24,7 @@ const PIECE: usize = 65_536;
 
 // Makes room for a piece, if a text has no room left after the bytes that are filled.
 fn make_room(text: &mut Vec<u8>, filled: usize) -> Result<(), AllocError>
-    requires within { filled ≤ bytes_within event_cap }
+    requires within { filled ≤ bytes_cap }
     requires has { filled ≤ length text.old.items }
     ensures kept { OnOk result (take filled text.new.items ≡ take filled text.old.items) }
     ensures room { OnOk result (filled < length text.new.items) }
@@ -59,7 +59,7 @@ fn fill<R: Read>(
     text: &mut Vec<u8>,
     limit: Limit,
 ) -> Result<bool, ReadRefusal>
-    ensures text { TakesIn limit.events (R.remaining (inner_of reader.old)) text.new.items result }
+    ensures text { TakesIn limit (R.remaining (inner_of reader.old)) text.new.items result }
     ensures plain { IfOk result (λ plain. IsTrue plain ↔ All IsPlain text.new.items) }
     ensures counts { Counts (failures_in reader.old) (failures_in reader.new) result }
 {
@@ -96,7 +96,7 @@ pub(crate) fn take_in<R: Read>(
     room: &mut Vec<u8>,
     limit: Limit,
 ) -> Result<bool, ReadRefusal>
-    ensures text { TakesIn limit.events (R.remaining (inner_of reader.old)) room.new.items result }
+    ensures text { TakesIn limit (R.remaining (inner_of reader.old)) room.new.items result }
     ensures plain { IfOk result (λ plain. IsTrue plain ↔ All IsPlain room.new.items) }
     ensures counts { Counts (failures_in reader.old) (failures_in reader.new) result }
 {

@@ -1,7 +1,7 @@
 //! The history of a text, or the first fault.
 ghost use Rattle.std.specs.Prelude.{◌≡◌, ◌∷◌, [], true, List, All, IfOk, IfSome, IsTrue};
 ghost use Rattle.snap_core.specs.Counting.{inner_of, failures_in};
-ghost use Rattle.snap_core.specs.Limits.{event_limit};
+ghost use Rattle.snap_core.specs.UsualLimits.{usual_limit};
 ghost use Rattle.snap_csv.specs.Answers.{AnswersText, AnswersWhole, Counts, Leaves};
 ghost use Rattle.snap_csv.specs.inside.Rows.{Stands};
 ghost use Rattle.snap_format.specs.Layout.{is_header_row};
@@ -16,7 +16,7 @@ use crate::intake::take_in;
 use crate::rows::{next_row, reader_of};
 use crate::stamped::stamped_history;
 use csv::{ByteRecord, Reader};
-use snap_core::{Counted, History, Limit};
+use snap_core::{AnyWriters, Counted, History, Limit};
 use snap_format::{ReadRefusal, bytes_within, row_limit, take_fields};
 use snap_plain::{history_of_lines, history_of_lines_shared, is_plain, lines_of};
 use snap_text::{Known, TextFault};
@@ -29,7 +29,7 @@ use std::thread::Threads;
 fn take_row(
     alloc: Global,
     known: &mut Known,
-    history: &mut History,
+    history: &mut History<AnyWriters>,
     place: u32,
     row: &ByteRecord,
 ) -> Result<(), ReadRefusal>
@@ -52,9 +52,9 @@ pub(crate) fn numbered_history(
     text: &[u8],
     plain: bool,
     limit: Limit,
-) -> Result<(History, Option<Vec<u32>>), ReadRefusal>
+) -> Result<(History<AnyWriters>, Option<Vec<u32>>), ReadRefusal>
     requires { IsTrue plain → All IsPlain text.now }
-    ensures { AnswersNumbered limit.events (rows_of text.now) result }
+    ensures { AnswersNumbered limit (rows_of text.now) result }
 {
     if plain {
         history_of_lines(alloc, lines_of(text), limit)
@@ -71,9 +71,9 @@ pub(crate) fn numbered_shared<Rt: Threads + Sync>(
     plain: bool,
     limit: Limit,
     cutting: Cutting,
-) -> Result<(History, Option<Vec<u32>>), ReadRefusal>
+) -> Result<(History<AnyWriters>, Option<Vec<u32>>), ReadRefusal>
     requires { IsTrue plain → All IsPlain text.now }
-    ensures { AnswersNumbered limit.events (rows_of text.now) result }
+    ensures { AnswersNumbered limit (rows_of text.now) result }
 {
     if !plain {
         return rows_history(alloc, text, limit);
@@ -86,8 +86,8 @@ fn rows_history(
     alloc: Global,
     text: &[u8],
     limit: Limit,
-) -> Result<(History, Option<Vec<u32>>), ReadRefusal>
-    ensures { AnswersNumbered limit.events (rows_of text.now) result }
+) -> Result<(History<AnyWriters>, Option<Vec<u32>>), ReadRefusal>
+    ensures { AnswersNumbered limit (rows_of text.now) result }
 {
     history_by_rows(
         alloc,
@@ -105,8 +105,8 @@ fn history_by_rows(
     reader: &mut Reader<&[u8]>,
     row: &mut ByteRecord,
     limit: Limit,
-) -> Result<(History, Option<Vec<u32>>), ReadRefusal>
-    ensures { (rows : List Fields) → Stands reader.old rows → AnswersNumbered limit.events rows result }
+) -> Result<(History<AnyWriters>, Option<Vec<u32>>), ReadRefusal>
+    ensures { (rows : List Fields) → Stands reader.old rows → AnswersNumbered limit rows result }
 {
     if next_row(reader, row)? {
         if is_header(row) {
@@ -130,10 +130,10 @@ fn history_under_header(
     reader: &mut Reader<&[u8]>,
     row: &mut ByteRecord,
     limit: Limit,
-) -> Result<(History, Option<Vec<u32>>), ReadRefusal>
-    ensures { (head : Fields) (later : List Fields) → is_header_row head ≡ true → Stands reader.old later → AnswersNumbered limit.events (head ∷ later) result }
+) -> Result<(History<AnyWriters>, Option<Vec<u32>>), ReadRefusal>
+    ensures { (head : Fields) (later : List Fields) → is_header_row head ≡ true → Stands reader.old later → AnswersNumbered limit (head ∷ later) result }
 {
-    let mut history = History::with_limit(alloc, limit);
+    let mut history = History::of_any(alloc, limit);
     take_rows(alloc, known, reader, row, limit, &mut history)?;
     Ok((history, None))
 }
@@ -145,11 +145,11 @@ fn take_rows(
     reader: &mut Reader<&[u8]>,
     row: &mut ByteRecord,
     limit: Limit,
-    history: &mut History,
+    history: &mut History<AnyWriters>,
 ) -> Result<(), ReadRefusal>
-    requires limit { history.old.limit ≡ limit.events }
+    requires limit { history.old.limit ≡ limit }
     requires empty { history.old.events ≡ [] }
-    ensures { (rows : List Fields) → Midway limit.events rows (Stands reader.old) history.old.events 0 → TakesRest limit.events rows history.new result }
+    ensures { (rows : List Fields) → Midway limit rows (Stands reader.old) history.old.events 0 → TakesRest limit rows history.new result }
 {
     for i in 0..row_limit(limit) {
         if !next_row(reader, row)? {
@@ -161,9 +161,14 @@ fn take_rows(
 }
 
 // The history of a text, or its first fault.
-fn history_of(alloc: Global, text: &[u8], plain: bool, limit: Limit) -> Result<History, ReadRefusal>
+fn history_of(
+    alloc: Global,
+    text: &[u8],
+    plain: bool,
+    limit: Limit,
+) -> Result<History<AnyWriters>, ReadRefusal>
     requires { IsTrue plain → All IsPlain text.now }
-    ensures { AnswersRows limit.events (rows_of text.now) result }
+    ensures { AnswersRows limit (rows_of text.now) result }
 {
     let (history, _) = numbered_history(alloc, text, plain, limit)?;
     Ok(history)
@@ -177,9 +182,9 @@ fn history_shared<Rt: Threads + Sync>(
     plain: bool,
     limit: Limit,
     cutting: Cutting,
-) -> Result<History, ReadRefusal>
+) -> Result<History<AnyWriters>, ReadRefusal>
     requires { IsTrue plain → All IsPlain text.now }
-    ensures { AnswersRows limit.events (rows_of text.now) result }
+    ensures { AnswersRows limit (rows_of text.now) result }
 {
     let (history, _) = numbered_shared(rt, alloc, text, plain, limit, cutting)?;
     Ok(history)
@@ -193,14 +198,15 @@ fn history_shared<Rt: Threads + Sync>(
 /// then rose, or is at `u64::MAX`. `Memory` is the answer if memory ran out. With every answer but `Device` the count is
 /// unchanged. After an error a part of the text is taken from the reader.
 pub fn read_history<R: Read>(alloc: Global, reader: &mut Counted<R>) -> Result<History, ReadRefusal>
-    ensures text { IfSome (R.remaining (inner_of reader.old)) (λ text. AnswersText event_limit text result) }
-    ensures limit { IfOk result (λ history. history.limit ≡ event_limit) }
+    ensures text { IfSome (R.remaining (inner_of reader.old)) (λ text. AnswersText usual_limit text result) }
+    ensures limit { IfOk result (λ history. history.limit ≡ usual_limit) }
     ensures counts { Counts (failures_in reader.old) (failures_in reader.new) result }
 {
     let limit = Limit::usual();
     let mut room = Vec::new(alloc);
     let plain = take_in(alloc, reader, &mut room, limit)?;
-    history_of(alloc, &room, plain, limit)
+    let history = history_of(alloc, &room, plain, limit)?;
+    Ok(history.into_one())
 }
 
 /// Reads as `read_history`, for a history of at most as many events as the limit, and a text of at most 1,024 bytes for each.
@@ -214,9 +220,9 @@ pub fn read_history_with<Rt: Threads + Sync, R: Read>(
     room: &mut Vec<u8>,
     limit: Limit,
     cutting: Cutting,
-) -> Result<History, ReadRefusal>
-    ensures text { IfSome (R.remaining (inner_of reader.old)) (λ text. AnswersText limit.events text result) }
-    ensures limit { IfOk result (λ history. history.limit ≡ limit.events) }
+) -> Result<History<AnyWriters>, ReadRefusal>
+    ensures text { IfSome (R.remaining (inner_of reader.old)) (λ text. AnswersText limit text result) }
+    ensures limit { IfOk result (λ history. history.limit ≡ limit) }
     ensures counts { Counts (failures_in reader.old) (failures_in reader.new) result }
     ensures room { IfSome (R.remaining (inner_of reader.old)) (λ text. Leaves text room.new.items result) }
 {
@@ -226,9 +232,13 @@ pub fn read_history_with<Rt: Threads + Sync, R: Read>(
 
 /// Reads the history of a text in memory: the text is not copied, and no device can fail. The history may have as many events as
 /// the limit, and the text 1,024 bytes for each.
-pub fn read_text(alloc: Global, text: &[u8], limit: Limit) -> Result<History, ReadRefusal>
-    ensures text { AnswersWhole limit.events text.now result }
-    ensures limit { IfOk result (λ history. history.limit ≡ limit.events) }
+pub fn read_text(
+    alloc: Global,
+    text: &[u8],
+    limit: Limit,
+) -> Result<History<AnyWriters>, ReadRefusal>
+    ensures text { AnswersWhole limit text.now result }
+    ensures limit { IfOk result (λ history. history.limit ≡ limit) }
 {
     if text.len() > bytes_within(limit) {
         return Err(ReadRefusal::Text {

@@ -2,6 +2,7 @@
 ghost use Rattle.std.specs.Prelude.{◌≡◌, ◌≤◌, ◌+◌, ℕ, IfOk, IfSome, List, length, map, option_map};
 ghost use Rattle.std.specs.List.{range_with_len};
 ghost use Rattle.csv.specs.Records.{fields_of};
+ghost use Rattle.snap_core.specs.declared.limit.Limit.{Limit};
 ghost use Rattle.snap_core.specs.Counting.{inner_of, failures_in};
 ghost use Rattle.snap_core.specs.Events.{event_cap};
 ghost use Rattle.snap_csv.specs.Answers.{AnswersRecords, Counts, Leaves};
@@ -15,7 +16,7 @@ use crate::intake::take_in;
 use crate::read::{numbered_history, numbered_shared};
 use crate::rows::{next_row, reader_of};
 use csv::{ByteRecord, Reader};
-use snap_core::{Counted, History, Limit};
+use snap_core::{AnyWriters, Counted, History, Limit};
 use snap_format::ReadRefusal;
 use snap_threads::Cutting;
 use std::alloc::{AllocError, Global};
@@ -44,9 +45,9 @@ fn numbers_in(alloc: Global, count: usize, kept: Option<Vec<u32>>) -> Result<Vec
 // The history of a text, and the number of each event's record in place of those that were kept; or the first fault.
 fn listed(
     alloc: Global,
-    numbered: Result<(History, Option<Vec<u32>>), ReadRefusal>,
-) -> Result<(History, Vec<u32>), ReadRefusal>
-    ensures { (limit : ℕ) (rows : List Fields) → AnswersNumbered limit rows numbered → AnswersListed limit rows result }
+    numbered: Result<(History<AnyWriters>, Option<Vec<u32>>), ReadRefusal>,
+) -> Result<(History<AnyWriters>, Vec<u32>), ReadRefusal>
+    ensures { (limit : Limit) (rows : List Fields) → AnswersNumbered limit rows numbered → AnswersListed limit rows result }
 {
     let (history, kept) = numbered?;
     let records = numbers_in(alloc, history.len(), kept)?;
@@ -61,10 +62,10 @@ pub fn read_records<R: Read>(
     reader: &mut Counted<R>,
     room: &mut Vec<u8>,
     limit: Limit,
-) -> Result<(History, Vec<u32>), ReadRefusal>
-    ensures text { IfSome (R.remaining (inner_of reader.old)) (λ text. AnswersRecords limit.events text result) }
+) -> Result<(History<AnyWriters>, Vec<u32>), ReadRefusal>
+    ensures text { IfSome (R.remaining (inner_of reader.old)) (λ text. AnswersRecords limit text result) }
     ensures each { IfOk result (λ x. length x.1.items ≡ length x.0.events) }
-    ensures limit { IfOk result (λ x. x.0.limit ≡ limit.events) }
+    ensures limit { IfOk result (λ x. x.0.limit ≡ limit) }
     ensures counts { Counts (failures_in reader.old) (failures_in reader.new) result }
     ensures room { IfSome (R.remaining (inner_of reader.old)) (λ text. Leaves text room.new.items result) }
 {
@@ -80,10 +81,10 @@ pub fn read_records_with<Rt: Threads + Sync, R: Read>(
     room: &mut Vec<u8>,
     limit: Limit,
     cutting: Cutting,
-) -> Result<(History, Vec<u32>), ReadRefusal>
-    ensures text { IfSome (R.remaining (inner_of reader.old)) (λ text. AnswersRecords limit.events text result) }
+) -> Result<(History<AnyWriters>, Vec<u32>), ReadRefusal>
+    ensures text { IfSome (R.remaining (inner_of reader.old)) (λ text. AnswersRecords limit text result) }
     ensures each { IfOk result (λ x. length x.1.items ≡ length x.0.events) }
-    ensures limit { IfOk result (λ x. x.0.limit ≡ limit.events) }
+    ensures limit { IfOk result (λ x. x.0.limit ≡ limit) }
     ensures counts { Counts (failures_in reader.old) (failures_in reader.new) result }
     ensures room { IfSome (R.remaining (inner_of reader.old)) (λ text. Leaves text room.new.items result) }
 {

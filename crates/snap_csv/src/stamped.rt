@@ -8,7 +8,7 @@ ghost use Rattle.snap_text.specs.Fields.{Fields};
 use crate::fields::five_fields;
 use crate::rows::next_row;
 use csv::{ByteRecord, Reader};
-use snap_core::{History, Limit};
+use snap_core::{AnyWriters, History, Limit};
 use snap_format::{ReadRefusal, Stamped, history_by_stamps, row_limit, take_stamped};
 use snap_text::{Known, TextFault};
 use std::alloc::Global;
@@ -22,7 +22,7 @@ fn take_stamped_row(
     place: u32,
     row: &ByteRecord,
 ) -> Result<(), ReadRefusal>
-    ensures { TakesStamped limit.events place stamped.old.items stamped.new.items (fields_of row.now) result }
+    ensures { TakesStamped limit place stamped.old.items stamped.new.items (fields_of row.now) result }
 {
     let Some(fields) = five_fields(row) else {
         return Err(ReadRefusal::Text {
@@ -43,7 +43,7 @@ fn read_stamped(
     stamped: &mut Vec<Stamped>,
 ) -> Result<(), ReadRefusal>
     requires { stamped.old.items ≡ [] }
-    ensures { (rows : List Fields) → Stands reader.old rows → ReadsStamped limit.events rows stamped.new.items result }
+    ensures { (rows : List Fields) → Stands reader.old rows → ReadsStamped limit rows stamped.new.items result }
 {
     for i in 0..row_limit(limit) {
         if !next_row(reader, row)? {
@@ -62,8 +62,8 @@ pub(crate) fn stamped_history(
     reader: &mut Reader<&[u8]>,
     row: &mut ByteRecord,
     limit: Limit,
-) -> Result<(History, Vec<u32>), ReadRefusal>
-    ensures { (rows : List Fields) → Stands reader.old rows → AnswersStamps limit.events rows result }
+) -> Result<(History<AnyWriters>, Vec<u32>), ReadRefusal>
+    ensures { (rows : List Fields) → Stands reader.old rows → AnswersStamps limit rows result }
 {
     let mut stamped = Vec::new(alloc);
     let read = read_stamped(alloc, known, reader, row, limit, &mut stamped);

@@ -10,7 +10,7 @@ ghost use Rattle.snap_text.specs.Spelling.{spelled};
 use crate::refusal::WriteRefusal;
 use csv::{Writer, WriterBuilder};
 use itoa::Buffer;
-use snap_core::{Counted, Event, History};
+use snap_core::{Counted, Event, History, Ownership};
 use snap_text::fields_of;
 use std::alloc::{AllocError, Global};
 use std::io::Write;
@@ -89,7 +89,7 @@ fn send_text<W: Write>(writer: &mut Counted<W>, text: &[u8]) -> Result<(), Write
 }
 
 // The text of a history.
-fn text_of(alloc: Global, history: &History) -> Result<Vec<u8>, AllocError>
+fn text_of<O: Ownership>(alloc: Global, history: &History<O>) -> Result<Vec<u8>, AllocError>
     ensures { IfOk result (λ text. text.items ≡ history_text history.now.events) }
 {
     let mut writer = begin_text(alloc)?;
@@ -108,7 +108,7 @@ fn text_of(alloc: Global, history: &History) -> Result<Vec<u8>, AllocError>
 pub fn write_history<W: Write>(
     alloc: Global,
     writer: &mut Counted<W>,
-    history: &History,
+    history: &History<impl Ownership>,
 ) -> Result<(), WriteRefusal>
     ensures text { Writes (W.contents (inner_of writer.old)) (W.contents (inner_of writer.new)) (history_text history.now.events) result }
     ensures counts { CountsWrite (failures_in writer.old) (failures_in writer.new) result }
@@ -161,7 +161,11 @@ fn begin_stamped(alloc: Global) -> Result<Writer<Vec<u8>>, AllocError>
 }
 
 // The text of a history with a stamp for each event.
-fn stamped_text_of(alloc: Global, history: &History, at: &[u64]) -> Result<Vec<u8>, AllocError>
+fn stamped_text_of<O: Ownership>(
+    alloc: Global,
+    history: &History<O>,
+    at: &[u64],
+) -> Result<Vec<u8>, AllocError>
     requires { length at.now ≡ length history.now.events }
     ensures { IfOk result (λ text. text.items ≡ stamped_text at.now history.now.events) }
 {
@@ -179,7 +183,7 @@ fn stamped_text_of(alloc: Global, history: &History, at: &[u64]) -> Result<Vec<u
 pub fn write_history_stamped<W: Write>(
     alloc: Global,
     writer: &mut Counted<W>,
-    history: &History,
+    history: &History<impl Ownership>,
     at: &[u64],
 ) -> Result<(), WriteRefusal>
     requires each { length at.now ≡ length history.now.events }

@@ -3,6 +3,7 @@ ghost use Rattle.std.specs.Prelude.{◌≡◌, ◌<◌, IfOk, length, map};
 ghost use Rattle.snap_core.specs.Calls.{call_numbered, calls_of};
 ghost use Rattle.snap_draw.specs.Calls.{drawn_call};
 
+use snap_core::Ownership;
 use snap_index::{Call, Index};
 use std::alloc::{AllocError, Global};
 
@@ -13,7 +14,7 @@ pub struct Drawn {
     pub call: Call,
 }
 
-fn call_at(index: &Index<'_>, number: u32) -> Drawn
+fn call_at<O: Ownership>(index: &Index<'_, O>, number: u32) -> Drawn
     requires { number < length (calls_of index.now) }
     ensures { result ≡ drawn_call (call_numbered (calls_of index.now) number) }
 {
@@ -27,7 +28,10 @@ fn call_at(index: &Index<'_>, number: u32) -> Drawn
 }
 
 /// All calls of a history, by number.
-pub(crate) fn all_calls(alloc: Global, index: &Index<'_>) -> Result<Vec<Drawn>, AllocError>
+pub(crate) fn all_calls<O: Ownership>(
+    alloc: Global,
+    index: &Index<'_, O>,
+) -> Result<Vec<Drawn>, AllocError>
     ensures { IfOk result (λ calls. calls.items ≡ map drawn_call (calls_of index.now)) }
 {
     let mut calls = Vec::new(alloc);

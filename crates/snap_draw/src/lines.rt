@@ -5,6 +5,7 @@ use crate::marks::is_marked;
 use crate::picture::{Picture, front_of, is_sentence, verdict_of};
 use crate::shapes::{Bar, Shapes};
 use crate::words::{label_of, place_at, put_cut, put_source, put_title, record_at};
+use snap_core::Ownership;
 use snap_index::CallOp;
 use snap_report::put_number;
 use std::alloc::{AllocError, Global};
@@ -64,7 +65,10 @@ fn put_record(
 }
 
 // Adds above each column the number of the record of its event, if there is room after the one before.
-fn put_records(out: &mut Vec<u8>, picture: &Picture<'_, '_>) -> Result<(), AllocError> {
+fn put_records<O: Ownership>(
+    out: &mut Vec<u8>,
+    picture: &Picture<'_, '_, O>,
+) -> Result<(), AllocError> {
     let shapes = picture.shapes;
     put_name(out, b"record")?;
     let mut end = 0usize;
@@ -80,9 +84,9 @@ fn put_records(out: &mut Vec<u8>, picture: &Picture<'_, '_>) -> Result<(), Alloc
 }
 
 // The label of a call, after a mark if it is one of a first fault.
-fn marked_label(
+fn marked_label<O: Ownership>(
     alloc: Global,
-    picture: &Picture<'_, '_>,
+    picture: &Picture<'_, '_, O>,
     span: &Span,
 ) -> Result<Vec<u8>, AllocError> {
     let mut label = Vec::new(alloc);
@@ -102,10 +106,10 @@ fn room_of(span: &Span, edge: usize) -> usize {
 }
 
 // Adds the label of a call, cut or filled up to its room.
-fn put_label(
+fn put_label<O: Ownership>(
     alloc: Global,
     out: &mut Vec<u8>,
-    picture: &Picture<'_, '_>,
+    picture: &Picture<'_, '_, O>,
     span: &Span,
     edge: usize,
     fill: u8,
@@ -125,10 +129,10 @@ fn put_label(
 }
 
 // Adds a bar: its label between its ends.
-fn put_bar(
+fn put_bar<O: Ownership>(
     alloc: Global,
     out: &mut Vec<u8>,
-    picture: &Picture<'_, '_>,
+    picture: &Picture<'_, '_, O>,
     span: &Span,
     edge: usize,
 ) -> Result<(), AllocError> {
@@ -150,10 +154,10 @@ fn put_process(out: &mut Vec<u8>, process: u32) -> Result<(), AllocError> {
     put_run(out, b' ', LEFT.saturating_sub(name))
 }
 
-fn put_bars(
+fn put_bars<O: Ownership>(
     alloc: Global,
     out: &mut Vec<u8>,
-    picture: &Picture<'_, '_>,
+    picture: &Picture<'_, '_, O>,
     line: &Line,
 ) -> Result<(), AllocError> {
     let edge = edge_of(picture.shapes);
@@ -168,7 +172,11 @@ fn put_bars(
 }
 
 // What is below a bar: the kinds of the first faults that it is of, or its place in the printed order, and its number in the run.
-fn note_of(alloc: Global, picture: &Picture<'_, '_>, span: &Span) -> Result<Vec<u8>, AllocError> {
+fn note_of<O: Ownership>(
+    alloc: Global,
+    picture: &Picture<'_, '_, O>,
+    span: &Span,
+) -> Result<Vec<u8>, AllocError> {
     let mut note = Vec::new(alloc);
     let number = span.bar.drawn.number;
     put_kinds(&mut note, &picture.shapes.marks, number, b" ")?;
@@ -191,10 +199,10 @@ fn note_of(alloc: Global, picture: &Picture<'_, '_>, span: &Span) -> Result<Vec<
 }
 
 // Adds the note of a bar, with the room up to the next one, after notes that end at a character. Answers where they end then.
-fn put_note(
+fn put_note<O: Ownership>(
     alloc: Global,
     notes: &mut Vec<u8>,
-    picture: &Picture<'_, '_>,
+    picture: &Picture<'_, '_, O>,
     span: &Span,
     next: usize,
     end: usize,
@@ -210,10 +218,10 @@ fn put_note(
 }
 
 // Adds the notes of the bars of a line.
-fn put_notes_of(
+fn put_notes_of<O: Ownership>(
     alloc: Global,
     notes: &mut Vec<u8>,
-    picture: &Picture<'_, '_>,
+    picture: &Picture<'_, '_, O>,
     spans: &[Span],
 ) -> Result<(), AllocError> {
     let mut end = 0usize;
@@ -228,10 +236,10 @@ fn put_notes_of(
 }
 
 // Adds the line of notes below a line, if one of its bars has a note.
-fn put_notes(
+fn put_notes<O: Ownership>(
     alloc: Global,
     out: &mut Vec<u8>,
-    picture: &Picture<'_, '_>,
+    picture: &Picture<'_, '_, O>,
     line: &Line,
 ) -> Result<(), AllocError> {
     let mut notes = Vec::new(alloc);
@@ -245,7 +253,11 @@ fn put_notes(
 }
 
 // Whether the label of a call has no room.
-fn is_cut(alloc: Global, picture: &Picture<'_, '_>, bar: &Bar) -> Result<bool, AllocError> {
+fn is_cut<O: Ownership>(
+    alloc: Global,
+    picture: &Picture<'_, '_, O>,
+    bar: &Bar,
+) -> Result<bool, AllocError> {
     let shapes = picture.shapes;
     let span = span_of(step_of(shapes.columns), bar);
     let label = marked_label(alloc, picture, &span)?;
@@ -253,10 +265,10 @@ fn is_cut(alloc: Global, picture: &Picture<'_, '_>, bar: &Bar) -> Result<bool, A
 }
 
 // Adds a call in full.
-fn put_cut_call(
+fn put_cut_call<O: Ownership>(
     out: &mut Vec<u8>,
     before: &[u8],
-    picture: &Picture<'_, '_>,
+    picture: &Picture<'_, '_, O>,
     bar: &Bar,
 ) -> Result<(), AllocError> {
     out.extend_from_slice(before)?;
@@ -265,10 +277,10 @@ fn put_cut_call(
 }
 
 // Adds the calls whose labels had no room, each in full.
-fn put_cut_calls(
+fn put_cut_calls<O: Ownership>(
     alloc: Global,
     out: &mut Vec<u8>,
-    picture: &Picture<'_, '_>,
+    picture: &Picture<'_, '_, O>,
 ) -> Result<(), AllocError> {
     let mut before: &[u8] = b"\ncalls whose labels are cut\n  ";
     for bar in &picture.shapes.bars {
@@ -281,7 +293,10 @@ fn put_cut_calls(
 }
 
 // Adds how many calls are left out, if some are.
-fn put_left_out(out: &mut Vec<u8>, picture: &Picture<'_, '_>) -> Result<(), AllocError> {
+fn put_left_out<O: Ownership>(
+    out: &mut Vec<u8>,
+    picture: &Picture<'_, '_, O>,
+) -> Result<(), AllocError> {
     let all = u64::from(picture.index.call_count());
     let drawn = picture.shapes.bars.len() as u64;
     if drawn == all {
@@ -293,7 +308,10 @@ fn put_left_out(out: &mut Vec<u8>, picture: &Picture<'_, '_>) -> Result<(), Allo
 }
 
 // Adds what the signs mean.
-fn put_key(out: &mut Vec<u8>, picture: &Picture<'_, '_>) -> Result<(), AllocError> {
+fn put_key<O: Ownership>(
+    out: &mut Vec<u8>,
+    picture: &Picture<'_, '_, O>,
+) -> Result<(), AllocError> {
     out.extend_from_slice(KEY)?;
     if !picture.shapes.marks.is_empty() {
         out.extend_from_slice(KEY_OF_MARKS)?;
@@ -305,10 +323,10 @@ fn put_key(out: &mut Vec<u8>, picture: &Picture<'_, '_>) -> Result<(), AllocErro
 }
 
 // Adds a line for each lane, and its notes.
-fn put_lines(
+fn put_lines<O: Ownership>(
     alloc: Global,
     out: &mut Vec<u8>,
-    picture: &Picture<'_, '_>,
+    picture: &Picture<'_, '_, O>,
 ) -> Result<(), AllocError> {
     let lines = lines_of(alloc, step_of(picture.shapes.columns), picture.shapes)?;
     for line in &lines {
@@ -319,10 +337,10 @@ fn put_lines(
 }
 
 // Adds the lanes, with the records above them and what the signs mean below.
-fn put_lanes(
+fn put_lanes<O: Ownership>(
     alloc: Global,
     out: &mut Vec<u8>,
-    picture: &Picture<'_, '_>,
+    picture: &Picture<'_, '_, O>,
 ) -> Result<(), AllocError> {
     if picture.shapes.lanes.is_empty() {
         return out.extend_from_slice(b"no calls\n");
@@ -352,7 +370,11 @@ fn put_sentences(out: &mut Vec<u8>, said: &[u8]) -> Result<(), AllocError> {
 }
 
 // Adds the picture, the verdict and the sentences.
-fn put_text(alloc: Global, out: &mut Vec<u8>, picture: &Picture<'_, '_>) -> Result<(), AllocError> {
+fn put_text<O: Ownership>(
+    alloc: Global,
+    out: &mut Vec<u8>,
+    picture: &Picture<'_, '_, O>,
+) -> Result<(), AllocError> {
     out.extend_from_slice(front_of(verdict_of(picture.said)))?;
     out.extend_from_slice(b"\n\n")?;
     put_lanes(alloc, out, picture)?;
@@ -361,17 +383,20 @@ fn put_text(alloc: Global, out: &mut Vec<u8>, picture: &Picture<'_, '_>) -> Resu
 }
 
 /// The picture, with the verdict above it and the sentences on its faults below. The error is want of memory.
-pub fn text_lines(alloc: Global, picture: &Picture<'_, '_>) -> Result<Vec<u8>, AllocError> {
+pub fn text_lines<O: Ownership>(
+    alloc: Global,
+    picture: &Picture<'_, '_, O>,
+) -> Result<Vec<u8>, AllocError> {
     let mut out = Vec::new(alloc);
     put_text(alloc, &mut out, picture)?;
     Ok(out)
 }
 
 // Adds the explanation and the picture.
-fn put_explained(
+fn put_explained<O: Ownership>(
     alloc: Global,
     out: &mut Vec<u8>,
-    picture: &Picture<'_, '_>,
+    picture: &Picture<'_, '_, O>,
 ) -> Result<(), AllocError> {
     out.extend_from_slice(picture.said)?;
     out.extend_from_slice(b"\n")?;
@@ -380,7 +405,10 @@ fn put_explained(
 }
 
 /// The explanation, with the picture below it. The error is want of memory.
-pub fn explained_lines(alloc: Global, picture: &Picture<'_, '_>) -> Result<Vec<u8>, AllocError> {
+pub fn explained_lines<O: Ownership>(
+    alloc: Global,
+    picture: &Picture<'_, '_, O>,
+) -> Result<Vec<u8>, AllocError> {
     let mut out = Vec::new(alloc);
     put_explained(alloc, &mut out, picture)?;
     Ok(out)

@@ -7,6 +7,7 @@ ghost use Rattle.snap_draw.specs.Marks.{kind_marks, mark_at, marks_of, update_ma
 ghost use Rattle.snap_draw.specs.Window.{is_marked as spec_is_marked};
 
 use snap_conditions::{Kind, Tally};
+use snap_core::Ownership;
 use snap_index::Index;
 use snap_witness::{concerned, first_fault_of};
 use std::alloc::{AllocError, Global};
@@ -46,9 +47,9 @@ fn mark_views(marks: &mut Vec<Mark>, kind: Kind, views: &[u32]) -> Result<(), Al
 }
 
 // Marks the updates of these components and numbers, as far as there are such updates.
-fn mark_updates(
+fn mark_updates<O: Ownership>(
     marks: &mut Vec<Mark>,
-    index: &Index<'_>,
+    index: &Index<'_, O>,
     kind: Kind,
     updates: &[(u8, u32)],
 ) -> Result<(), AllocError>
@@ -61,9 +62,9 @@ fn mark_updates(
 }
 
 // Marks the calls that the first fault of a kind concerns, if there is one.
-fn mark_kind(
+fn mark_kind<O: Ownership>(
     marks: &mut Vec<Mark>,
-    index: &Index<'_>,
+    index: &Index<'_, O>,
     tally: &Tally,
     kind: Kind,
 ) -> Result<(), AllocError>
@@ -81,9 +82,9 @@ fn mark_kind(
 }
 
 /// The calls that the first fault of each kind concerns, as an explanation has them.
-pub(crate) fn marks(
+pub(crate) fn marks<O: Ownership>(
     alloc: Global,
-    index: &Index<'_>,
+    index: &Index<'_, O>,
     tally: &Tally,
 ) -> Result<Vec<Mark>, AllocError>
     requires { tally.now ≡ tally_of (calls_of index.now) (views_of (calls_of index.now)) }

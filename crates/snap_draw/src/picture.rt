@@ -2,6 +2,7 @@
 ghost use Rattle.std.specs.Prelude.{◌≡◌, slice_get};
 
 use crate::shapes::Shapes;
+use snap_core::Ownership;
 use snap_index::Index;
 
 /// How the events and the calls of a history are numbered elsewhere: the records of its events in its text, and the numbers that its
@@ -24,10 +25,10 @@ impl Numbering<'_> {
 /// What a picture shows: the shapes of a history, its index, its numbering, the numbers of its printed order, and the explanation. There
 /// is no order if the history is not atomic. A page of a long history has the shapes of its pieces too.
 #[derive(Clone, Copy)]
-pub struct Picture<'a, 'h> {
+pub struct Picture<'a, 'h, O: Ownership> {
     pub shapes: &'a Shapes,
     pub parts: &'a [Shapes],
-    pub index: &'a Index<'h>,
+    pub index: &'a Index<'h, O>,
     pub numbering: Numbering<'a>,
     pub order: &'a [u32],
     pub said: &'a [u8],

@@ -11,6 +11,7 @@ use crate::marks::{Mark, marks};
 use crate::shapes::{Shapes, shapes_with};
 use crate::window::{Place, Window, calls_from, first_around};
 use snap_conditions::Tally;
+use snap_core::Ownership;
 use snap_index::Index;
 use std::alloc::{AllocError, Global};
 
@@ -86,9 +87,9 @@ fn each_of(
 
 /// The shapes of the pieces that a page holds of a history with more calls than its window. They are windows of that many calls, one
 /// after the other, up to `most` calls around the place of the window. The error is want of memory.
-pub fn parts_of(
+pub fn parts_of<O: Ownership>(
     alloc: Global,
-    index: &Index<'_>,
+    index: &Index<'_, O>,
     tally: &Tally,
     order: &[u32],
     window: Window,

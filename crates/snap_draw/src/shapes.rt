@@ -9,6 +9,7 @@ use crate::drawn::{Drawn, all_calls};
 use crate::marks::{Mark, marks};
 use crate::window::{Window, calls_in};
 use snap_conditions::Tally;
+use snap_core::Ownership;
 use snap_index::Index;
 use std::alloc::{AllocError, Global};
 
@@ -146,9 +147,9 @@ pub(crate) fn shapes_with(
 
 /// The shapes of a history, by its index, the tally of all its completed views, and the numbers of the printed order. There are no
 /// numbers if the history is not atomic. The calls of a window are drawn.
-pub fn shapes_of(
+pub fn shapes_of<O: Ownership>(
     alloc: Global,
-    index: &Index<'_>,
+    index: &Index<'_, O>,
     tally: &Tally,
     order: &[u32],
     window: Window,

@@ -15,6 +15,7 @@ use parts::{put_escaped, put_parts};
 use points::{points_of, put_line, put_places};
 use scale::{LANE, MARGIN, TOP, WIDE, across, right_of, scaled, x_of, y_of};
 use script::SCRIPT;
+use snap_core::Ownership;
 use snap_options::Scheme;
 use std::alloc::{AllocError, Global};
 use strip::put_strip;
@@ -52,7 +53,10 @@ fn foot_of(shapes: &Shapes) -> u64 {
 }
 
 // Where the label of the last call of a lane would end on the right, the farthest of all lanes.
-fn labels_end(alloc: Global, picture: &Picture<'_, '_>) -> Result<usize, AllocError> {
+fn labels_end<O: Ownership>(
+    alloc: Global,
+    picture: &Picture<'_, '_, O>,
+) -> Result<usize, AllocError> {
     let mut end = 0usize;
     for bar in &picture.shapes.bars {
         if next_of(&picture.shapes.bars, bar).is_none() {
@@ -66,7 +70,10 @@ fn labels_end(alloc: Global, picture: &Picture<'_, '_>) -> Result<usize, AllocEr
 }
 
 // The width of a picture: all columns, the longest sentence, and the labels, of which long ones are cut.
-fn width_of(alloc: Global, picture: &Picture<'_, '_>) -> Result<usize, AllocError> {
+fn width_of<O: Ownership>(
+    alloc: Global,
+    picture: &Picture<'_, '_, O>,
+) -> Result<usize, AllocError> {
     let (_marks, longest) = extent_of(picture.said);
     let columns = across(picture.shapes.columns);
     let labels = labels_end(alloc, picture)?
@@ -82,7 +89,11 @@ fn width_of(alloc: Global, picture: &Picture<'_, '_>) -> Result<usize, AllocErro
 }
 
 // Adds the first line, with the size.
-fn put_size(out: &mut Vec<u8>, picture: &Picture<'_, '_>, width: u64) -> Result<(), AllocError> {
+fn put_size<O: Ownership>(
+    out: &mut Vec<u8>,
+    picture: &Picture<'_, '_, O>,
+    width: u64,
+) -> Result<(), AllocError> {
     let (marks, _longest) = extent_of(picture.said);
     let height = foot_of(picture.shapes).saturating_add(scaled(marks, 20, 26));
     put_parts(
@@ -105,7 +116,11 @@ fn put_size(out: &mut Vec<u8>, picture: &Picture<'_, '_>, width: u64) -> Result<
 }
 
 // Adds the first line, the ground, and the verdict.
-fn put_head(out: &mut Vec<u8>, picture: &Picture<'_, '_>, width: usize) -> Result<(), AllocError> {
+fn put_head<O: Ownership>(
+    out: &mut Vec<u8>,
+    picture: &Picture<'_, '_, O>,
+    width: usize,
+) -> Result<(), AllocError> {
     put_size(out, picture, width as u64)?;
     out.extend_from_slice(GROUND)?;
     out.extend_from_slice(
@@ -164,7 +179,10 @@ fn put_mark(out: &mut Vec<u8>, line: &[u8], y: u64) -> Result<(), AllocError> {
 }
 
 // Adds the sentence on the first fault of each kind.
-fn put_marks(out: &mut Vec<u8>, picture: &Picture<'_, '_>) -> Result<(), AllocError> {
+fn put_marks<O: Ownership>(
+    out: &mut Vec<u8>,
+    picture: &Picture<'_, '_, O>,
+) -> Result<(), AllocError> {
     let mut y = foot_of(picture.shapes).saturating_add(26);
     for line in picture.said.split(|byte| *byte == b'\n').skip(1) {
         if is_sentence(line) {
@@ -176,9 +194,9 @@ fn put_marks(out: &mut Vec<u8>, picture: &Picture<'_, '_>) -> Result<(), AllocEr
 }
 
 // Adds what lies below the calls: the head, the strip, the records and the lanes.
-fn put_ground(
+fn put_ground<O: Ownership>(
     out: &mut Vec<u8>,
-    picture: &Picture<'_, '_>,
+    picture: &Picture<'_, '_, O>,
     width: usize,
 ) -> Result<(), AllocError> {
     put_head(out, picture, width)?;
@@ -193,10 +211,10 @@ fn put_ground(
 }
 
 // Adds the calls and the faults, with the points of the printed order.
-fn put_run(
+fn put_run<O: Ownership>(
     alloc: Global,
     out: &mut Vec<u8>,
-    picture: &Picture<'_, '_>,
+    picture: &Picture<'_, '_, O>,
     width: usize,
 ) -> Result<(), AllocError> {
     let points = points_of(alloc, &picture.shapes.bars, picture.order)?;
@@ -208,7 +226,10 @@ fn put_run(
 }
 
 // A picture up to its end, with its colours by name.
-fn uncoloured(alloc: Global, picture: &Picture<'_, '_>) -> Result<Vec<u8>, AllocError> {
+fn uncoloured<O: Ownership>(
+    alloc: Global,
+    picture: &Picture<'_, '_, O>,
+) -> Result<Vec<u8>, AllocError> {
     let mut out = Vec::new(alloc);
     let width = width_of(alloc, picture)?;
     put_ground(&mut out, picture, width)?;
@@ -216,10 +237,10 @@ fn uncoloured(alloc: Global, picture: &Picture<'_, '_>) -> Result<Vec<u8>, Alloc
     Ok(out)
 }
 
-fn put_svg(
+fn put_svg<O: Ownership>(
     alloc: Global,
     out: &mut Vec<u8>,
-    picture: &Picture<'_, '_>,
+    picture: &Picture<'_, '_, O>,
     scheme: Scheme,
 ) -> Result<(), AllocError>
     ensures { OnOk result (EndsSvg out.new.items) }
@@ -230,9 +251,9 @@ fn put_svg(
 }
 
 /// The picture as SVG, in the colours of a scheme. The error is want of memory.
-pub fn svg_of(
+pub fn svg_of<O: Ownership>(
     alloc: Global,
-    picture: &Picture<'_, '_>,
+    picture: &Picture<'_, '_, O>,
     scheme: Scheme,
 ) -> Result<Vec<u8>, AllocError>
     ensures { IfOk result (λ text. EndsSvg text.items) }
@@ -243,10 +264,10 @@ pub fn svg_of(
 }
 
 // Adds the pieces of a long history, each as its picture, which the script shows.
-fn put_pieces(
+fn put_pieces<O: Ownership>(
     alloc: Global,
     out: &mut Vec<u8>,
-    picture: &Picture<'_, '_>,
+    picture: &Picture<'_, '_, O>,
 ) -> Result<(), AllocError> {
     for shapes in picture.parts {
         let piece = Picture {
@@ -265,7 +286,11 @@ fn put_pieces(
 }
 
 // Adds what a page has below its picture.
-fn put_tail(alloc: Global, out: &mut Vec<u8>, picture: &Picture<'_, '_>) -> Result<(), AllocError> {
+fn put_tail<O: Ownership>(
+    alloc: Global,
+    out: &mut Vec<u8>,
+    picture: &Picture<'_, '_, O>,
+) -> Result<(), AllocError> {
     out.extend_from_slice(MOVES)?;
     put_extent(out, picture)?;
     out.extend_from_slice(TAIL)?;
@@ -276,10 +301,10 @@ fn put_tail(alloc: Global, out: &mut Vec<u8>, picture: &Picture<'_, '_>) -> Resu
 }
 
 // Adds the page around the picture, and the picture. The style of the page gives the picture its colours.
-fn put_page(
+fn put_page<O: Ownership>(
     alloc: Global,
     out: &mut Vec<u8>,
-    picture: &Picture<'_, '_>,
+    picture: &Picture<'_, '_, O>,
     scheme: Option<Scheme>,
 ) -> Result<(), AllocError>
     ensures { OnOk result (EndsPage out.new.items) }
@@ -294,9 +319,9 @@ fn put_page(
 
 /// The picture on a page, which a browser shows without any other file. The page has the colours of a scheme, or if none is given those
 /// of the reader's system. The error is want of memory.
-pub fn page_of(
+pub fn page_of<O: Ownership>(
     alloc: Global,
-    picture: &Picture<'_, '_>,
+    picture: &Picture<'_, '_, O>,
     scheme: Option<Scheme>,
 ) -> Result<Vec<u8>, AllocError>
     ensures { IfOk result (λ text. EndsPage text.items) }

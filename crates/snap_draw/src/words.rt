@@ -2,6 +2,7 @@
 use crate::marks::is_marked;
 use crate::picture::{Numbering, Picture};
 use crate::shapes::Bar;
+use snap_core::Ownership;
 use snap_index::{Call, CallOp, Index};
 use snap_report::{put_call, put_entry, put_number};
 use std::alloc::{AllocError, Global};
@@ -25,7 +26,11 @@ pub(crate) fn place_at(bars: &[Bar], column: usize) -> Option<u32> {
 }
 
 // Adds what a call does.
-fn put_operation(out: &mut Vec<u8>, index: &Index<'_>, bar: &Bar) -> Result<(), AllocError> {
+fn put_operation<O: Ownership>(
+    out: &mut Vec<u8>,
+    index: &Index<'_, O>,
+    bar: &Bar,
+) -> Result<(), AllocError> {
     if let CallOp::Update(entry) = bar.drawn.call.op {
         return put_entry(out, b"update ", &entry);
     }
@@ -72,9 +77,9 @@ pub(crate) fn put_source(
 }
 
 /// Adds a call in full, as an explanation does, with its number in the run.
-pub(crate) fn put_title(
+pub(crate) fn put_title<O: Ownership>(
     out: &mut Vec<u8>,
-    picture: &Picture<'_, '_>,
+    picture: &Picture<'_, '_, O>,
     bar: &Bar,
 ) -> Result<(), AllocError> {
     let numbering = &picture.numbering;
@@ -97,7 +102,11 @@ pub(crate) fn put_cut(out: &mut Vec<u8>, text: &[u8], room: usize) -> Result<(),
 }
 
 /// The short name of a call: its number, and what it does.
-pub(crate) fn label_of(alloc: Global, index: &Index<'_>, bar: &Bar) -> Result<Vec<u8>, AllocError> {
+pub(crate) fn label_of<O: Ownership>(
+    alloc: Global,
+    index: &Index<'_, O>,
+    bar: &Bar,
+) -> Result<Vec<u8>, AllocError> {
     let mut label = Vec::new(alloc);
     put_call(&mut label, b"", bar.drawn.number)?;
     label.extend_from_slice(b" ")?;
@@ -119,9 +128,9 @@ fn told_of<'a>(alloc: Global, said: &'a [u8], number: u32) -> Result<Option<&'a 
 }
 
 /// The short name of a call in a picture with room for labels. Of a wide view of a fault it has the entries that the explanation lists.
-pub(crate) fn short_label(
+pub(crate) fn short_label<O: Ownership>(
     alloc: Global,
-    picture: &Picture<'_, '_>,
+    picture: &Picture<'_, '_, O>,
     bar: &Bar,
 ) -> Result<Vec<u8>, AllocError> {
     let number = bar.drawn.number;

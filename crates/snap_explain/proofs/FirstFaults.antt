@@ -10,7 +10,7 @@ use Rattle.std.proofs.lemmas.List.{length-append, take_all}
 use Rattle.std.proofs.lemmas.List.Elements.{filter_map-append}
 use Rattle.snap_core.specs.declared.event.Event.{Event}
 use Rattle.snap_core.specs.Calls.{Call, calls_of, views_of}
-use Rattle.snap_core.specs.Events.{IsBoundedHistory}
+use Rattle.snap_core.specs.Bounded.{IsBoundedOrdered}
 use Rattle.snap_views.specs.Seen.{view_in, views_between}
 use Rattle.snap_views.proofs.Pieces.{range_joined}
 use Rattle.snap_views.proofs.Sizes.{few_views}
@@ -39,7 +39,7 @@ split_take (suc m) l [] ys e = let same : suc m ≡ l = omega (arith, e) in ap (
 split_take (suc m) l (x ∷ xs) ys e = ap (λ z. x ∷ z) (split_take m l xs ys (omega (arith, e)))
 
 -- the number after the place of a view is one of 32 bits
-pub place_fits : (es : List Event) → IsBoundedHistory es → (place : ℕ) → place < length (views_of (calls_of es)) → Fits w32 (place + 1)
+pub place_fits : (es : List Event) → IsBoundedOrdered es → (place : ℕ) → place < length (views_of (calls_of es)) → Fits w32 (place + 1)
 place_fits es k place l = omega (arith, few_views es k, l)
 
 -- some faults were told of one part of the views, and some of the next part: the text and the number that may follow

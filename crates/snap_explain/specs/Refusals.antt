@@ -1,6 +1,7 @@
 -- Why a text is not a history: what is wrong with a field data or what converts the text, the rule that is broken, and the record that
 -- breaks it.
 use Rattle.std.specs.Prelude.{◌≡◌, ◌==◌, ◌∷◌, ℕ, Bool, false, List, [], ◌++◌, ◌||◌, codes, decimal, Option, Some, None, if◌then◌else◌, nat_lt}
+use Rattle.snap_core.specs.declared.limit.Limit.{Limit}
 use Rattle.std.specs.List.{flat_map}
 use Rattle.std.specs.Option.{option_map_or}
 use Rattle.snap_core.specs.Events.{event_cap}
@@ -74,23 +75,24 @@ rule_of faults.BadData =
 rule_of faults.Busy = codes "a process begins a call only after its last one has ended\n"
 rule_of faults.Idle = codes "a process ends only a call that it has begun and not yet ended\n"
 rule_of faults.OtherOp = codes "the end of a call has the field op of its begin\n"
-rule_of faults.Writer = codes "a component is written by one process only\n"
+rule_of faults.Writer = codes "a component is written by one process only; --writers many takes others too\n"
 rule_of faults.Number = codes "an update has the next number of its component, which is one more than the updates of it that began before\n"
+rule_of faults.Order = codes "an update ends after all updates of its component with lower numbers have ended\n"
 rule_of faults.TooLong = codes "a text has at most "
 rule_of faults.BadAt = codes "the field at is a number from 0 to 18446744073709551615, without a sign or leading zeros\n"
 rule_of faults.Repeated = codes "no two records have the same stamp\n"
 
 -- the words after the events that a history may have, and after the bytes of its text. If this is not the greatest limit, they also
 -- say which option allows more
-abbrev pub event_words : ℕ → List ℕ
-event_words limit = if nat_lt limit event_cap then codes " events; --events N allows up to 1048576\n" else codes " events\n"
+abbrev pub event_words : Limit → List ℕ
+event_words limit = if nat_lt limit.events event_cap then codes " events; --events N allows up to 1048576\n" else codes " events\n"
 
-abbrev pub byte_words : ℕ → List ℕ
-byte_words limit = if nat_lt limit event_cap then codes " bytes; --events N allows 1024 for each of up to 1048576 events\n" else codes " bytes\n"
+abbrev pub byte_words : Limit → List ℕ
+byte_words limit = if nat_lt limit.events event_cap then codes " bytes; --events N allows 1024 for each of up to 1048576 events\n" else codes " bytes\n"
 
--- the number of the limit that a fault breaks, if a history may have up to limit events, and the words after it
-abbrev pub limit_of : ℕ → TextFault → List ℕ
-limit_of limit faults.TooMany = decimal limit ++ event_words limit
+-- the number of the limit that a fault breaks, and the words after it
+abbrev pub limit_of : Limit → TextFault → List ℕ
+limit_of limit faults.TooMany = decimal limit.events ++ event_words limit
 limit_of limit faults.TooLong = decimal (bytes_within limit) ++ byte_words limit
 limit_of limit _ = []
 
@@ -105,11 +107,11 @@ record_text place None = codes "  no record of the text has that number\n"
 
 -- the line of a fault at a place, what is wrong with its field data or what converts the text, the rule that it breaks, and the record
 -- there
-unfoldable pub refusal_explanation : ℕ → List ℕ → ℕ → TextFault → List ℕ
+unfoldable pub refusal_explanation : Limit → List ℕ → ℕ → TextFault → List ℕ
 refusal_explanation limit text place fault =
     line_text (refusal_line place fault) ++ fault_told fault (record_at (rows_of text) place) ++ rule_of fault ++ limit_of limit fault
     ++ record_text place (record_at (rows_of text) place)
 
--- the bytes explain a fault of a text, if a history may have up to limit events
-abbrev pub IsRefusalExplanation : ℕ → List ℕ → ℕ → TextFault → List ℕ → Type 0
+-- the bytes explain a fault of a text within a limit
+abbrev pub IsRefusalExplanation : Limit → List ℕ → ℕ → TextFault → List ℕ → Type 0
 IsRefusalExplanation limit text place fault out = out ≡ refusal_explanation limit text place fault

@@ -6,7 +6,7 @@ ghost use Rattle.snap_index.specs.IndexedCalls.{indexed_op};
 ghost use Rattle.snap_explain.specs.Calls.{call_begin, call_text, entries_text, operation_text, records_words};
 ghost use Rattle.snap_explain.specs.Faults.{update_text, updates_text};
 
-use snap_core::Entry;
+use snap_core::{Entry, Ownership};
 use snap_index::{Call, CallOp, Index};
 use snap_report::{put_call, put_entry, put_number};
 use std::alloc::AllocError;
@@ -41,7 +41,11 @@ pub(crate) fn put_entries(out: &mut Vec<u8>, entries: &[Entry]) -> Result<(), Al
 }
 
 // Adds what a call shows: nothing if it is not a completed view.
-fn put_shown(out: &mut Vec<u8>, index: &Index<'_>, number: u32) -> Result<(), AllocError>
+fn put_shown<O: Ownership>(
+    out: &mut Vec<u8>,
+    index: &Index<'_, O>,
+    number: u32,
+) -> Result<(), AllocError>
     requires { number < length (calls_of index.now) }
     ensures { OnOk result (out.new.items ≡ out.old.items ++ entries_text (entries_of (call_numbered (calls_of index.now) number).operation)) }
 {
@@ -52,9 +56,9 @@ fn put_shown(out: &mut Vec<u8>, index: &Index<'_>, number: u32) -> Result<(), Al
 }
 
 // Adds what a call does.
-fn put_operation(
+fn put_operation<O: Ownership>(
     out: &mut Vec<u8>,
-    index: &Index<'_>,
+    index: &Index<'_, O>,
     number: u32,
     op: CallOp,
 ) -> Result<(), AllocError>
@@ -72,9 +76,9 @@ fn put_operation(
 }
 
 /// Begins the line of the call of a number: it adds the number, the process, and the records.
-pub(crate) fn put_begin(
+pub(crate) fn put_begin<O: Ownership>(
     out: &mut Vec<u8>,
-    index: &Index<'_>,
+    index: &Index<'_, O>,
     records: &[u32],
     number: u32,
 ) -> Result<(), AllocError>
@@ -95,9 +99,9 @@ pub(crate) fn put_begin(
 }
 
 /// Adds the line of the call of a number.
-pub(crate) fn put_call_line(
+pub(crate) fn put_call_line<O: Ownership>(
     out: &mut Vec<u8>,
-    index: &Index<'_>,
+    index: &Index<'_, O>,
     records: &[u32],
     number: u32,
 ) -> Result<(), AllocError>
@@ -114,9 +118,9 @@ pub(crate) fn put_call_line(
 }
 
 // Adds the line of an update, if there is one of that component and number.
-fn put_update_line(
+fn put_update_line<O: Ownership>(
     out: &mut Vec<u8>,
-    index: &Index<'_>,
+    index: &Index<'_, O>,
     records: &[u32],
     component: u8,
     number: u32,
@@ -131,9 +135,9 @@ fn put_update_line(
 }
 
 /// Adds the lines of some updates, each given by its component and its number. There is no line if there is no such update.
-pub(crate) fn put_updates(
+pub(crate) fn put_updates<O: Ownership>(
     out: &mut Vec<u8>,
-    index: &Index<'_>,
+    index: &Index<'_, O>,
     records: &[u32],
     updates: &[(u8, u32)],
 ) -> Result<(), AllocError>

@@ -15,6 +15,7 @@ use crate::faults::put_faults;
 use crate::first_faults::put_first_faults;
 use crate::view::{Entries, Lines};
 use snap_conditions::{Tally, is_atomic, is_regular};
+use snap_core::Ownership;
 use snap_index::Index;
 use std::alloc::{AllocError, Global};
 
@@ -43,9 +44,9 @@ fn put_verdict(out: &mut Vec<u8>, tally: &Tally) -> Result<(), AllocError>
 }
 
 // Adds the lines of the calls of some numbers.
-fn put_calls(
+fn put_calls<O: Ownership>(
     out: &mut Vec<u8>,
-    index: &Index<'_>,
+    index: &Index<'_, O>,
     records: &[u32],
     numbers: &[u32],
 ) -> Result<(), AllocError>
@@ -65,9 +66,9 @@ fn put_calls(
 ///
 /// It is made from the tally of all completed views, the number of the record of each event, and the numbers of the printed order.
 /// That order is given exactly if the tally has no fault.
-pub fn explain(
+pub fn explain<O: Ownership>(
     alloc: Global,
-    index: &Index<'_>,
+    index: &Index<'_, O>,
     tally: &Tally,
     records: &[u32],
     order: Option<&[u32]>,
@@ -91,9 +92,9 @@ pub fn explain(
 /// The explanation without the order of an atomic history: the verdict, and a sentence for the first fault of each kind with the calls
 /// concerned. Of a view of a fault it lists the entries of the fault. It is made from the tally of all completed views, and from the number
 /// of the record of each event.
-pub fn sentences(
+pub fn sentences<O: Ownership>(
     alloc: Global,
-    index: &Index<'_>,
+    index: &Index<'_, O>,
     tally: &Tally,
     records: &[u32],
 ) -> Result<Vec<u8>, AllocError>
@@ -112,9 +113,9 @@ pub fn sentences(
 }
 
 // The explanation of a history that is not atomic, by the first faults of each kind.
-fn explain_first_faults(
+fn explain_first_faults<O: Ownership>(
     alloc: Global,
-    index: &Index<'_>,
+    index: &Index<'_, O>,
     tally: &Tally,
     records: &[u32],
     listed: Entries,
@@ -137,9 +138,9 @@ fn explain_first_faults(
 /// The explanation of a history by more than one fault of a kind. Of an atomic history, and by one fault, it is that of `explain`.
 /// Otherwise it has a sentence for the first fault of a kind of each of the first completed views that have one, and the calls concerned.
 /// The kinds come one after the other.
-pub fn explain_faults(
+pub fn explain_faults<O: Ownership>(
     alloc: Global,
-    index: &Index<'_>,
+    index: &Index<'_, O>,
     tally: &Tally,
     records: &[u32],
     order: Option<&[u32]>,

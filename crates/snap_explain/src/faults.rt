@@ -12,6 +12,7 @@ use crate::view::{Lines, put_numbers, put_views};
 use snap_conditions::{
     Fault, IntegrityFault, Kind, ProximityFault, ReadFault, Side, Tally, WriteFault,
 };
+use snap_core::Ownership;
 use snap_index::Index;
 use snap_report::{put_call, put_entry, put_number, put_update};
 use snap_witness::{concerned, first_fault_of, least_exceeding, side_number, view_numbered};
@@ -52,9 +53,9 @@ fn put_proximity(out: &mut Vec<u8>, fault: &ProximityFault) -> Result<(), AllocE
 }
 
 // Adds why a view that shows more of some component than another should show no less of any.
-fn put_against(
+fn put_against<O: Ownership>(
     out: &mut Vec<u8>,
-    index: &Index<'_>,
+    index: &Index<'_, O>,
     view: u32,
     other: u32,
 ) -> Result<(), AllocError>
@@ -73,7 +74,11 @@ fn put_against(
 }
 
 // Adds the sentence of a read fault.
-fn put_read(out: &mut Vec<u8>, index: &Index<'_>, fault: &ReadFault) -> Result<(), AllocError>
+fn put_read<O: Ownership>(
+    out: &mut Vec<u8>,
+    index: &Index<'_, O>,
+    fault: &ReadFault,
+) -> Result<(), AllocError>
     requires named { AreReadAt (calls_of index.now) fault.now }
     ensures { OnOk result (out.new.items ≡ out.old.items ++ read_sentence (calls_of index.now) fault.now) }
 {
@@ -88,9 +93,9 @@ fn put_read(out: &mut Vec<u8>, index: &Index<'_>, fault: &ReadFault) -> Result<(
 }
 
 // Adds what both views of a read fault show of the components of the updates that show the fault.
-fn put_compared(
+fn put_compared<O: Ownership>(
     out: &mut Vec<u8>,
-    index: &Index<'_>,
+    index: &Index<'_, O>,
     fault: &ReadFault,
     updates: &[(u8, u32)],
 ) -> Result<(), AllocError>
@@ -103,9 +108,9 @@ fn put_compared(
 }
 
 // Adds the sentence of a read fault, and what both views show of the components of the updates that show it.
-fn put_read_text(
+fn put_read_text<O: Ownership>(
     out: &mut Vec<u8>,
-    index: &Index<'_>,
+    index: &Index<'_, O>,
     fault: &ReadFault,
     updates: &[(u8, u32)],
 ) -> Result<(), AllocError>
@@ -137,9 +142,9 @@ fn put_write(out: &mut Vec<u8>, fault: &WriteFault) -> Result<(), AllocError>
 }
 
 // Adds the sentence of a fault that these updates show.
-fn put_sentence(
+fn put_sentence<O: Ownership>(
     out: &mut Vec<u8>,
-    index: &Index<'_>,
+    index: &Index<'_, O>,
     fault: &Fault,
     updates: &[(u8, u32)],
 ) -> Result<(), AllocError>
@@ -155,9 +160,9 @@ fn put_sentence(
 }
 
 // Adds the lines of the views of a fault, and of the updates that show it.
-fn put_concerned(
+fn put_concerned<O: Ownership>(
     out: &mut Vec<u8>,
-    index: &Index<'_>,
+    index: &Index<'_, O>,
     lines: Lines<'_>,
     views: &[u32],
     updates: &[(u8, u32)],
@@ -171,9 +176,9 @@ fn put_concerned(
 }
 
 /// Adds the sentence of a fault, and the lines of the calls that it concerns.
-pub(crate) fn put_fault(
+pub(crate) fn put_fault<O: Ownership>(
     out: &mut Vec<u8>,
-    index: &Index<'_>,
+    index: &Index<'_, O>,
     lines: Lines<'_>,
     fault: &Fault,
 ) -> Result<(), AllocError>
@@ -187,9 +192,9 @@ pub(crate) fn put_fault(
 }
 
 // Adds what is said of the first fault of a kind, if there is one.
-fn put_kind(
+fn put_kind<O: Ownership>(
     out: &mut Vec<u8>,
-    index: &Index<'_>,
+    index: &Index<'_, O>,
     lines: Lines<'_>,
     tally: &Tally,
     kind: Kind,
@@ -205,9 +210,9 @@ fn put_kind(
 }
 
 /// Adds what is said of the first fault of each kind.
-pub(crate) fn put_faults(
+pub(crate) fn put_faults<O: Ownership>(
     out: &mut Vec<u8>,
-    index: &Index<'_>,
+    index: &Index<'_, O>,
     lines: Lines<'_>,
     tally: &Tally,
 ) -> Result<(), AllocError>

@@ -14,6 +14,7 @@ ghost use Rattle.snap_explain.specs.FirstFaults.{first_faults_text, firsts_among
 use crate::faults::put_fault;
 use crate::view::Lines;
 use snap_conditions::{Fault, Kind, Tally, tally_range, tally_without_read};
+use snap_core::Ownership;
 use snap_index::Index;
 use snap_tally::{ViewGrid, read_faults_by_grid};
 use std::alloc::AllocError;
@@ -22,7 +23,7 @@ use std::alloc::AllocError;
 const BLOCK: u32 = 512;
 
 // The tally of the completed view at a place, as far as faults of a kind need it.
-fn tally_at(index: &Index<'_>, place: u32, kind: Kind) -> Tally
+fn tally_at<O: Ownership>(index: &Index<'_, O>, place: u32, kind: Kind) -> Tally
     requires { place < length (views_of (calls_of index.now)) }
     ensures { first_in kind result ≡ first_in kind (tally_of (calls_of index.now) (view_in (calls_of index.now) place ∷ [])) }
 {
@@ -37,7 +38,7 @@ fn tally_at(index: &Index<'_>, place: u32, kind: Kind) -> Tally
 }
 
 // The first fault of a kind of the completed view at a place, if it has one.
-fn first_at(index: &Index<'_>, place: u32, kind: Kind) -> Option<Fault>
+fn first_at<O: Ownership>(index: &Index<'_, O>, place: u32, kind: Kind) -> Option<Fault>
     requires { place < length (views_of (calls_of index.now)) }
     ensures first { result ≡ first_in kind (tally_of (calls_of index.now) (view_in (calls_of index.now) place ∷ [])) }
     ensures named { ForSome result (IsNamed (calls_of index.now)) }
@@ -49,9 +50,9 @@ fn first_at(index: &Index<'_>, place: u32, kind: Kind) -> Option<Fault>
 
 // Adds what is said of the first fault of the completed view at a place, if it has one of the kind and one more may follow. It gives
 // how many may follow then.
-fn put_at(
+fn put_at<O: Ownership>(
     out: &mut Vec<u8>,
-    index: &Index<'_>,
+    index: &Index<'_, O>,
     lines: Lines<'_>,
     kind: Kind,
     place: u32,
@@ -77,9 +78,9 @@ fn put_at(
 
 // Adds what is said of the first fault of each completed view between two places, without the second, that has one of the kind. That is
 // so of the first `left` such views alone. It gives how many may follow.
-fn put_between(
+fn put_between<O: Ownership>(
     out: &mut Vec<u8>,
-    index: &Index<'_>,
+    index: &Index<'_, O>,
     lines: Lines<'_>,
     kind: Kind,
     between: (u32, u32),
@@ -101,9 +102,9 @@ fn put_between(
 }
 
 // Adds what is said of the first fault of each of the first `most` completed views that have one of the kind.
-fn put_all(
+fn put_all<O: Ownership>(
     out: &mut Vec<u8>,
-    index: &Index<'_>,
+    index: &Index<'_, O>,
     lines: Lines<'_>,
     kind: Kind,
     most: u32,
@@ -117,9 +118,9 @@ fn put_all(
 }
 
 // Adds what `put_between` does for read faults. It passes over a range that has none, at the cost of one block.
-fn put_block(
+fn put_block<O: Ownership>(
     out: &mut Vec<u8>,
-    grid: &ViewGrid<'_, '_>,
+    grid: &ViewGrid<'_, '_, O>,
     lines: Lines<'_>,
     between: (u32, u32),
     left: u32,
@@ -142,9 +143,9 @@ fn put_block(
 }
 
 // Adds what is said of the first read fault of each of the first `most` completed views that have one, block by block.
-fn put_blocks(
+fn put_blocks<O: Ownership>(
     out: &mut Vec<u8>,
-    grid: &ViewGrid<'_, '_>,
+    grid: &ViewGrid<'_, '_, O>,
     lines: Lines<'_>,
     most: u32,
 ) -> Result<(), AllocError>
@@ -163,9 +164,9 @@ fn put_blocks(
 }
 
 // Adds what is said of the first read fault of each of the first `most` completed views that have one.
-fn put_reads(
+fn put_reads<O: Ownership>(
     out: &mut Vec<u8>,
-    index: &Index<'_>,
+    index: &Index<'_, O>,
     lines: Lines<'_>,
     tally: &Tally,
     most: u32,
@@ -182,9 +183,9 @@ fn put_reads(
 }
 
 // Adds what is said of the first fault of a kind of each of the first `most` completed views that have one.
-fn put_kind(
+fn put_kind<O: Ownership>(
     out: &mut Vec<u8>,
-    index: &Index<'_>,
+    index: &Index<'_, O>,
     lines: Lines<'_>,
     tally: &Tally,
     kind: Kind,
@@ -201,9 +202,9 @@ fn put_kind(
 }
 
 /// Adds what is said of the first fault of a kind of each of the first `most` completed views that have one, kind by kind.
-pub(crate) fn put_first_faults(
+pub(crate) fn put_first_faults<O: Ownership>(
     out: &mut Vec<u8>,
-    index: &Index<'_>,
+    index: &Index<'_, O>,
     lines: Lines<'_>,
     tally: &Tally,
     most: u32,

@@ -1,5 +1,5 @@
 //! What is wrong with the field data of a record.
-ghost use Rattle.std.specs.Prelude.{◌≡◌, ◌≤◌, ◌<◌, ◌^◌, ◌∷◌, [], IfSome, length, map, option_map};
+ghost use Rattle.std.specs.Prelude.{◌≡◌, ◌<◌, ◌∷◌, [], IfSome, length, map, option_map};
 ghost use Rattle.snap_text.specs.Fields.{parts, three};
 ghost use Rattle.snap_explain.specs.Mistakes.{component_of as spec_component_of, data_mistake as spec_data_mistake, entries_in, entry_mistake as spec_entry_mistake, first_fall as spec_first_fall, first_mistake as spec_first_mistake, is_number as spec_is_number, numbers_mistake as spec_numbers_mistake, record_mistake as spec_record_mistake, update_mistake as spec_update_mistake, view_mistake as spec_view_mistake, words_mistake as spec_words_mistake};
 ghost use Rattle.snap_explain.specs.inside.Parts.{parts_after};

@@ -36,9 +36,13 @@ fn rule_of(fault: TextFault) -> &'static str
         TextFault::Busy => "a process begins a call only after its last one has ended\n",
         TextFault::Idle => "a process ends only a call that it has begun and not yet ended\n",
         TextFault::OtherOp => "the end of a call has the field op of its begin\n",
-        TextFault::Writer => "a component is written by one process only\n",
+        TextFault::Writer =>
+            "a component is written by one process only; --writers many takes others too\n",
         TextFault::Number => {
             "an update has the next number of its component, which is one more than the updates of it that began before\n"
+        }
+        TextFault::Order => {
+            "an update ends after all updates of its component with lower numbers have ended\n"
         }
         TextFault::TooLong => "a text has at most ",
         TextFault::BadAt => {
@@ -183,7 +187,7 @@ fn has_more(limit: Limit) -> bool
 
 // The words after the number of events that a history may have: if there may be more, also by which option.
 fn event_words(limit: Limit) -> &'static str
-    ensures { result.now ≡ spec_event_words limit.events }
+    ensures { result.now ≡ spec_event_words limit }
 {
     if has_more(limit) {
         " events; --events N allows up to 1048576\n"
@@ -194,7 +198,7 @@ fn event_words(limit: Limit) -> &'static str
 
 // The words after the number of bytes that a text may have: if there may be more, also by which option.
 fn byte_words(limit: Limit) -> &'static str
-    ensures { result.now ≡ spec_byte_words limit.events }
+    ensures { result.now ≡ spec_byte_words limit }
 {
     if has_more(limit) {
         " bytes; --events N allows 1024 for each of up to 1048576 events\n"
@@ -205,7 +209,7 @@ fn byte_words(limit: Limit) -> &'static str
 
 // Adds the number of the limit that a fault breaks, and the words after it. Adds nothing if the rule is not a limit.
 fn put_limit(out: &mut Vec<u8>, fault: TextFault, limit: Limit) -> Result<(), AllocError>
-    ensures { OnOk result (out.new.items ≡ out.old.items ++ limit_of limit.events fault) }
+    ensures { OnOk result (out.new.items ≡ out.old.items ++ limit_of limit fault) }
 {
     match fault {
         TextFault::TooMany => put_count(out, b"", limit.events(), event_words(limit).as_bytes()),
@@ -256,7 +260,7 @@ pub fn explain_refusal(
     fault: TextFault,
     limit: Limit,
 ) -> Result<Vec<u8>, AllocError>
-    ensures { IfOk result (λ explained. IsRefusalExplanation limit.events text.now place fault explained.items) }
+    ensures { IfOk result (λ explained. IsRefusalExplanation limit text.now place fault explained.items) }
 {
     let record = record_of(alloc, text, place)?;
     let mut out = refusal_text(alloc, place, fault)?;

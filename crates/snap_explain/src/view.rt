@@ -8,7 +8,7 @@ ghost use Rattle.snap_explain.specs.Faults.{view_numbers};
 ghost use Rattle.snap_explain.specs.Views.{has_component as spec_has_component, named_text, number_word, numbers_text, of_fault_text, other_count as spec_other_count, shown_text, some_text, view_text, views_text};
 
 use crate::call::{put_begin, put_entries};
-use snap_core::{Entry, View};
+use snap_core::{Entry, Ownership, View};
 use snap_index::Index;
 use snap_report::{put_call, put_entry, put_number, put_update};
 use snap_witness::view_numbered;
@@ -117,9 +117,9 @@ fn put_shown(
 }
 
 // Adds the line of a view of a fault that these updates show.
-fn put_view(
+fn put_view<O: Ownership>(
     out: &mut Vec<u8>,
-    index: &Index<'_>,
+    index: &Index<'_, O>,
     lines: Lines<'_>,
     view: u32,
     updates: &[(u8, u32)],
@@ -140,9 +140,9 @@ fn put_view(
 }
 
 /// Adds the lines of the views of a fault that these updates show.
-pub(crate) fn put_views(
+pub(crate) fn put_views<O: Ownership>(
     out: &mut Vec<u8>,
-    index: &Index<'_>,
+    index: &Index<'_, O>,
     lines: Lines<'_>,
     views: &[u32],
     updates: &[(u8, u32)],
@@ -188,10 +188,10 @@ fn put_shown_numbers(
 }
 
 /// Adds a text, and what a view shows of the components of some updates.
-pub(crate) fn put_numbers(
+pub(crate) fn put_numbers<O: Ownership>(
     out: &mut Vec<u8>,
     text: &[u8],
-    index: &Index<'_>,
+    index: &Index<'_, O>,
     view: u32,
     updates: &[(u8, u32)],
 ) -> Result<(), AllocError>

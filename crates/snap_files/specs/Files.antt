@@ -4,6 +4,7 @@ use Rattle.std.specs.Global.{Vec}
 use Rattle.std.specs.List.{AllZip}
 use Rattle.std.specs.Io.KnownBytes.{Appends}
 use Rattle.snap_core.specs.Sending.{SendsFront}
+use Rattle.snap_core.specs.declared.limit.Limit.{Limit}
 use Rattle.snap_check.specs.declared.options.CheckOptions.{CheckOptions}
 use Rattle.snap_check.specs.Options.{IsReportWith}
 use Rattle.snap_check.specs.declared.status.Status.{Status}
@@ -46,16 +47,16 @@ abbrev pub IsTroubled : Opens → List ℕ → Trouble → Type 0
 IsTroubled opens name trouble = opens name (Err trouble) ⊎ ((known : Option (List ℕ)) × opens name (Ok known) × (trouble ≡ Memory))
 
 -- what a text has shown, each line with the name before it
-abbrev pub IsNamedCounts : ℕ → List ℕ → List ℕ → Option Status → List ℕ → Type 0
+abbrev pub IsNamedCounts : Limit → List ℕ → List ℕ → Option Status → List ℕ → Type 0
 IsNamedCounts limit name text status out = IsNamed (IsAnswerTo (Counts None) limit text status) name out
 
 -- what is answered and written for an opened text: its report or its counts, as named lines or as an object alone, or its test case
 abbrev pub IsTextPage : Format → CheckOptions → List ℕ → List ℕ → Option Status → List ℕ → Type 0
 IsTextPage Plain options name text status out = IsNamedReport options name text status out
-IsTextPage Json options name text status out = IsObject name options.views options.limit.events text status out
-IsTextPage formats.Counts options name text status out = IsNamedCounts options.limit.events name text status out
-IsTextPage CountsObject options name text status out = IsCountsObject name options.limit.events text status out
-IsTextPage Junit options name text status out = IsTestCase name options.views options.limit.events text status out
+IsTextPage Json options name text status out = IsObject name options.views options.limit text status out
+IsTextPage formats.Counts options name text status out = IsNamedCounts options.limit name text status out
+IsTextPage CountsObject options name text status out = IsCountsObject name options.limit text status out
+IsTextPage Junit options name text status out = IsTestCase name options.views options.limit text status out
 
 -- the exit status of a name
 abbrev pub answer_code : Answer → ℕ

@@ -84,7 +84,7 @@ fn answer<Rt: Threads + Sync, R: Read>(
     reader: &mut Counted<R>,
     options: CheckOptions,
 ) -> Result<(Option<Status>, Vec<u8>), RunFault>
-    ensures page { IfOk result (λ page. IfSome (R.remaining (inner_of reader.old)) (λ bytes. IsAnswerTo question.entry options.limit.events bytes page.0 page.1.items)) }
+    ensures page { IfOk result (λ page. IfSome (R.remaining (inner_of reader.old)) (λ bytes. IsAnswerTo question.entry options.limit bytes page.0 page.1.items)) }
     ensures blame { BlamesReader (failures_in reader.old) (failures_in reader.new) result }
 {
     let workers = Workers {
@@ -105,7 +105,7 @@ fn named_counts<Rt: Threads + Sync, R: Read>(
     reader: &mut Counted<R>,
     options: CheckOptions,
 ) -> Result<(Option<Status>, Vec<u8>), RunFault>
-    ensures page { IfOk result (λ page. IfSome (R.remaining (inner_of reader.old)) (λ bytes. IsNamedCounts options.limit.events name.now bytes page.0 page.1.items)) }
+    ensures page { IfOk result (λ page. IfSome (R.remaining (inner_of reader.old)) (λ bytes. IsNamedCounts options.limit name.now bytes page.0 page.1.items)) }
     ensures blame { BlamesReader (failures_in reader.old) (failures_in reader.new) result }
 {
     let (status, counts) = answer(crew, alloc, Question::Counts(None), reader, options)?;

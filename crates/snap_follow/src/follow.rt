@@ -1,5 +1,5 @@
 //! A recording that is followed, line by line.
-ghost use Rattle.std.specs.Prelude.{◌≡◌, ◌≢◌, ◌≤◌, ◌<◌, ◌++◌, ◌∷◌, [], ◌↔◌, ℕ, List, None, Some, IsTrue, IfErr, IfNone, IfOk, IfSome, MatchOption, OnErr, OnOk, drop, false, true, length};
+ghost use Rattle.std.specs.Prelude.{◌≡◌, ◌≢◌, ◌≤◌, ◌<◌, ◌++◌, ◌∷◌, [], ◌↔◌, ℕ, List, None, Some, IsTrue, IfErr, IfNone, IfOk, IfSome, OnErr, OnOk, drop, false, true, length};
 ghost use Rattle.snap_core.specs.declared.event.Event.{Event};
 ghost use Rattle.snap_core.specs.Calls.{calls_of};
 ghost use Rattle.snap_core.specs.Events.{IsHistory};

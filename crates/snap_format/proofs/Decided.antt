@@ -1,5 +1,6 @@
 -- Each text is one of a history, or it has a first fault.
 use Rattle.std.proofs.Common.{◌≡◌, ◌<◌, ◌≤◌, ◌+◌, ◌++◌, ◌||◌, cond, inl, inr, ℕ, zero, suc, Bool, true, false, not, List, [], ◌∷◌, length, get_or, take, Option, Some, None, Result, Ok, Err, refl, arith, ◌∙◌, sym, ap, subst, add-one}
+use Rattle.snap_core.specs.declared.limit.Limit.{Limit}
 use Rattle.std.specs.Prelude.{◌==◌, ◌≢◌, ◌⊎◌, nat_le}
 use Rattle.std.specs.List.{list_any}
 use Rattle.std.specs.List.Sorted.{IsPermutation, IsStrictlyIncreasing}
@@ -109,9 +110,9 @@ unrepeated true h = absurd cc
 unrepeated false h = refl
 
 -- a record without a fault has a stamp and an event, and no earlier record has its stamp
-pub fresh_then : (limit n : ℕ) (earlier : List ℕ) (r : Fields) → shape_fault limit n earlier r ≡ None → (x : ℕ × Event) × (stamped_row r ≡ Ok x) × (list_any (λ s. x.0 == s) earlier ≡ false)
+pub fresh_then : (limit : Limit) (n : ℕ) (earlier : List ℕ) (r : Fields) → shape_fault limit n earlier r ≡ None → (x : ℕ × Event) × (stamped_row r ≡ Ok x) × (list_any (λ s. x.0 == s) earlier ≡ false)
 unfolding shape_fault
-fresh_then limit n earlier r h = go (length r == 5) (nat_le limit n) (stamped_row r) h
+fresh_then limit n earlier r h = go (length r == 5) (nat_le limit.events n) (stamped_row r) h
   where
     go : (b c : Bool) (o : Result (ℕ × Event) TextFault) → cond (not b) (Some faults.Fields) (cond c (Some faults.TooMany) (repeat_fault earlier o)) ≡ None → (x : ℕ × Event) × (o ≡ Ok x) × (list_any (λ s. x.0 == s) earlier ≡ false)
     go true false (Ok x) h = (x, refl, unrepeated (list_any (λ s. x.0 == s) earlier) h)
@@ -125,7 +126,7 @@ record Ordered (rows : List Fields) : Type 0 where
   same : IsPermutation (stamped_in rows) all
   rise : Rises all
 
-ordered : (limit : ℕ) (rows : List Fields) → NoneOf (shape_at limit rows) (length rows) → (n : ℕ) → n ≤ length rows → Ordered (take n rows)
+ordered : (limit : Limit) (rows : List Fields) → NoneOf (shape_at limit rows) (length rows) → (n : ℕ) → n ≤ length rows → Ordered (take n rows)
 unfolding Rises
 ordered limit rows none zero le = record { all = []; same = IsPermutation-refl []; rise = tt }
 ordered limit rows none (suc n) le =
@@ -144,7 +145,7 @@ ordered limit rows none (suc n) le =
       rise = more.rise;
     }
 
-order_of : (limit : ℕ) (rows : List Fields) → NoneOf (shape_at limit rows) (length rows) → (xs : List Stamped) × InOrder rows xs
+order_of : (limit : Limit) (rows : List Fields) → NoneOf (shape_at limit rows) (length rows) → (xs : List Stamped) × InOrder rows xs
 order_of limit rows none =
     let o = ordered limit rows none (length rows) (omega arith) in
     let whole : take (length rows) rows ≡ rows = take_all (length rows) rows (omega arith) in
@@ -155,7 +156,7 @@ order_of limit rows none =
 Decided : (List Event → Type 0) → (ℕ → TextFault → Type 0) → Type 0
 Decided Read Fault = ((events : List Event) × Read events) ⊎ ((place : ℕ) × (fault : TextFault) × Fault place fault)
 
-stamps_decided : (limit : ℕ) (rows : List Fields) → Decided (StampedRead limit rows) (StampedFault limit rows)
+stamps_decided : (limit : Limit) (rows : List Fields) → Decided (StampedRead limit rows) (StampedFault limit rows)
 unfolding Decided
 stamps_decided limit rows = elim (first_of (shape_at limit rows) (length rows)) [
   | inl none ↦
@@ -167,7 +168,7 @@ stamps_decided limit rows = elim (first_of (shape_at limit rows) (length rows)) 
   | inr (i, f, first) ↦ inr (i + 2, f, inl (record { i = i; record_is = refl; first = first }))
 ]
 
-rows_decided : (limit : ℕ) (rows : List Fields) → Decided (RowsRead limit rows) (RowsFault limit rows)
+rows_decided : (limit : Limit) (rows : List Fields) → Decided (RowsRead limit rows) (RowsFault limit rows)
 unfolding Decided
 rows_decided limit [] = inr (1, faults.Header, (refl, refl))
 rows_decided limit (head ∷ rows) = go (is_header_row head) refl (is_stamped_header_row head) refl
@@ -183,7 +184,7 @@ rows_decided limit (head ∷ rows) = go (is_header_row head) refl (is_stamped_he
     ]
     go false is false stamped = inr (1, faults.Header, inl (is, stamped, refl, refl))
 
-pub text_decided : (limit : ℕ) (text : List ℕ) → ((events : List Event) × IsText limit text events) ⊎ ((place : ℕ) × (fault : TextFault) × HasFault limit text place fault)
+pub text_decided : (limit : Limit) (text : List ℕ) → ((events : List Event) × IsText limit text events) ⊎ ((place : ℕ) × (fault : TextFault) × HasFault limit text place fault)
 unfolding Decided
 text_decided limit text = elim (cases_lt (bytes_within limit) (length text)) [
   | inl long ↦ inr (0, faults.TooLong, inl (long, refl, refl))

@@ -1,5 +1,6 @@
 -- The events of a text are a history.
 use Rattle.std.proofs.Common.{◌≡◌, ◌<◌, ◌≤◌, ◌+◌, ◌^◌, ◌++◌, ◌==◌, cond, inl, inr, ℕ, zero, suc, Bool, true, false, not, List, [], ◌∷◌, length, get_or, take, Option, Some, None, Result, Ok, Err, refl, arith, ◌∙◌, sym, ap, subst}
+use Rattle.snap_core.specs.declared.limit.Limit.{Limit}
 use Rattle.std.specs.Prelude.{nat_le, is_none, option_and_then, option_map, All}
 use Rattle.std.proofs.lemmas.List.{map-append, take_all}
 use Rattle.std.proofs.lemmas.List.Elements.{All-cons, All-get_or, All-nil, filter_map-append}
@@ -10,10 +11,11 @@ use Rattle.snap_core.specs.declared.event.Event.{Event}
 use Rattle.snap_core.specs.declared.event.Event.TheVariants.{BeginUpdate, BeginView, EndUpdate, EndView}
 use Rattle.snap_core.specs.declared.view.ViewRefusal.TheVariants.{NotRising, ZeroNumber}
 use Rattle.snap_core.specs.Entries.{AreEntries, EntryFits, has_zero, rises}
-use Rattle.snap_core.specs.Events.{EventFits, IsBoundedHistory, event_cap}
-use Rattle.snap_core.specs.Refusals.{has_other_number, has_other_writer, is_busy, is_idle, is_other, refusal_of}
-use Rattle.snap_core.proofs.Picks.{kept_push, picked}
-use Rattle.snap_core.proofs.Pushes.{history_nil}
+use Rattle.snap_core.specs.Events.{EventFits}
+use Rattle.snap_core.specs.Bounded.{IsBoundedBy}
+use Rattle.snap_core.specs.Refusals.{breaks_order, breaks_writer, has_other_number, is_busy, is_idle, is_other, refusal_of}
+use Rattle.snap_core.proofs.Picks.{pick, picked}
+use Rattle.snap_core.proofs.OrderedPushes.{bounded_nil, bounded_push}
 use Rattle.snap_text.specs.declared.fault.TextFault.{TextFault}
 use Rattle.snap_text.specs.declared.fault.TextFault.TheVariants as faults
 use Rattle.snap_text.specs.Fields.{◌>>=◌, Fields, begins_at, empty_at, entries_at, entry_at, event_of, event_with, number_at, numbered, or_fault, row_event, update_at, updates_at, view_at, viewed}
@@ -108,26 +110,27 @@ stamped_fits (t ∷ a ∷ p ∷ o ∷ d ∷ e ∷ rest) x h = absurd cc
 
 -- ---- an event without a fault is not refused
 
-none_refused : (limit : ℕ) (es : List Event) (x : Event) → fault_with limit es (Ok x) ≡ None → refusal_of limit es x ≡ None
-none_refused limit es x h = go (nat_le limit (length es)) refl (is_busy es x) refl (is_idle es x) refl (is_other es x) refl (has_other_writer es x) refl (has_other_number es x) refl
+none_refused : (limit : Limit) (es : List Event) (x : Event) → fault_with limit es (Ok x) ≡ None → refusal_of limit es x ≡ None
+none_refused limit es x h = go (nat_le limit.events (length es)) refl (is_busy es x) refl (is_idle es x) refl (is_other es x) refl (breaks_writer limit.writers es x) refl (has_other_number es x) refl (breaks_order limit.writers es x) refl
   where
-    go : (t : Bool) → nat_le limit (length es) ≡ t → (b : Bool) → is_busy es x ≡ b → (i : Bool) → is_idle es x ≡ i → (o : Bool) → is_other es x ≡ o → (w : Bool) → has_other_writer es x ≡ w → (n : Bool) → has_other_number es x ≡ n → refusal_of limit es x ≡ None
-    go true h1 b h2 i h3 o h4 w h5 n h6 = absurd (let g = sym (ap (option_and_then fault_of) (picked limit es x true b i o w n h1 h2 h3 h4 h5 h6)) ∙ h in cc)
-    go false h1 true h2 i h3 o h4 w h5 n h6 = absurd (let g = sym (ap (option_and_then fault_of) (picked limit es x false true i o w n h1 h2 h3 h4 h5 h6)) ∙ h in cc)
-    go false h1 false h2 true h3 o h4 w h5 n h6 = absurd (let g = sym (ap (option_and_then fault_of) (picked limit es x false false true o w n h1 h2 h3 h4 h5 h6)) ∙ h in cc)
-    go false h1 false h2 false h3 true h4 w h5 n h6 = absurd (let g = sym (ap (option_and_then fault_of) (picked limit es x false false false true w n h1 h2 h3 h4 h5 h6)) ∙ h in cc)
-    go false h1 false h2 false h3 false h4 true h5 n h6 = absurd (let g = sym (ap (option_and_then fault_of) (picked limit es x false false false false true n h1 h2 h3 h4 h5 h6)) ∙ h in cc)
-    go false h1 false h2 false h3 false h4 false h5 true h6 = absurd (let g = sym (ap (option_and_then fault_of) (picked limit es x false false false false false true h1 h2 h3 h4 h5 h6)) ∙ h in cc)
-    go false h1 false h2 false h3 false h4 false h5 false h6 = picked limit es x false false false false false false h1 h2 h3 h4 h5 h6
+    by : (t b i o w n r : Bool) → nat_le limit.events (length es) ≡ t → is_busy es x ≡ b → is_idle es x ≡ i → is_other es x ≡ o → breaks_writer limit.writers es x ≡ w → has_other_number es x ≡ n → breaks_order limit.writers es x ≡ r → option_and_then fault_of (pick t b i o w n r) ≡ None
+    by t b i o w n r h1 h2 h3 h4 h5 h6 h7 = sym (ap (option_and_then fault_of) (picked limit es x t b i o w n r h1 h2 h3 h4 h5 h6 h7)) ∙ h
 
-none_kept : IsBoundedHistory []
-none_kept = record { history = history_nil; short = omega arith; fit = All-nil EventFits }
+    go : (t : Bool) → nat_le limit.events (length es) ≡ t → (b : Bool) → is_busy es x ≡ b → (i : Bool) → is_idle es x ≡ i → (o : Bool) → is_other es x ≡ o → (w : Bool) → breaks_writer limit.writers es x ≡ w → (n : Bool) → has_other_number es x ≡ n → (r : Bool) → breaks_order limit.writers es x ≡ r → refusal_of limit es x ≡ None
+    go true h1 b h2 i h3 o h4 w h5 n h6 r h7 = absurd (let g = by true b i o w n r h1 h2 h3 h4 h5 h6 h7 in cc)
+    go false h1 true h2 i h3 o h4 w h5 n h6 r h7 = absurd (let g = by false true i o w n r h1 h2 h3 h4 h5 h6 h7 in cc)
+    go false h1 false h2 true h3 o h4 w h5 n h6 r h7 = absurd (let g = by false false true o w n r h1 h2 h3 h4 h5 h6 h7 in cc)
+    go false h1 false h2 false h3 true h4 w h5 n h6 r h7 = absurd (let g = by false false false true w n r h1 h2 h3 h4 h5 h6 h7 in cc)
+    go false h1 false h2 false h3 false h4 true h5 n h6 r h7 = absurd (let g = by false false false false true n r h1 h2 h3 h4 h5 h6 h7 in cc)
+    go false h1 false h2 false h3 false h4 false h5 true h6 r h7 = absurd (let g = by false false false false false true r h1 h2 h3 h4 h5 h6 h7 in cc)
+    go false h1 false h2 false h3 false h4 false h5 false h6 true h7 = absurd (let g = by false false false false false false true h1 h2 h3 h4 h5 h6 h7 in cc)
+    go false h1 false h2 false h3 false h4 false h5 false h6 false h7 = picked limit es x false false false false false false false h1 h2 h3 h4 h5 h6 h7
 
 -- ---- records without stamps
 
-row_then : (limit : ℕ) (before : List Event) (r : Fields) → row_fault limit before r ≡ None → (x : Event) × (row_event r ≡ Ok x) × (fault_with limit before (Ok x) ≡ None)
+row_then : (limit : Limit) (before : List Event) (r : Fields) → row_fault limit before r ≡ None → (x : Event) × (row_event r ≡ Ok x) × (fault_with limit before (Ok x) ≡ None)
 unfolding row_fault
-row_then limit before r h = go (length r == 4) (nat_le limit (length before)) (row_event r) h
+row_then limit before r h = go (length r == 4) (nat_le limit.events (length before)) (row_event r) h
   where
     go : (b c : Bool) (o : Result Event TextFault) → cond (not b) (Some faults.Fields) (cond c (Some faults.TooMany) (fault_with limit before o)) ≡ None → (x : Event) × (o ≡ Ok x) × (fault_with limit before (Ok x) ≡ None)
     go true false (Ok x) h = (x, refl, h)
@@ -135,15 +138,15 @@ row_then limit before r h = go (length r == 4) (nat_le limit (length before)) (r
     go true true o h = absurd cc
     go false c o h = absurd cc
 
-rows_kept : (limit : ℕ) (rows : List Fields) → limit ≤ event_cap → NoFault limit rows → (n : ℕ) → n ≤ length rows → IsBoundedHistory (events_in (take n rows))
-rows_kept limit rows most none zero le = none_kept
-rows_kept limit rows most none (suc n) le =
+rows_kept : (limit : Limit) (rows : List Fields) → NoFault limit rows → (n : ℕ) → n ≤ length rows → IsBoundedBy limit.writers (events_in (take n rows))
+rows_kept limit rows none zero le = bounded_nil limit.writers
+rows_kept limit rows none (suc n) le =
     let before = events_in (take n rows) in
     let row = get_or rows n [] in
     let (x, is, fine) = row_then limit before row (none n (omega arith)) in
     let longer : events_in (take (suc n) rows) ≡ before ++ x ∷ [] =
     rw (take-suc rows n [] (omega arith), filter_map-append (λ r. event_in (row_event r)) (take n rows) (row ∷ []), is) refl in
-    subst IsBoundedHistory (sym longer) (kept_push limit before x most (rows_kept limit rows most none n (omega arith)) (none_refused limit before x fine) (row_fits row x is))
+    subst (IsBoundedBy limit.writers) (sym longer) (bounded_push limit before x (rows_kept limit rows none n (omega arith)) (none_refused limit before x fine) (row_fits row x is))
 
 -- ---- records with stamps
 
@@ -158,27 +161,27 @@ all_fit place (r ∷ rows) = go (stamped_row r) refl (all_fit (place + 1) rows)
     go (Ok x) is later = All-cons Fits (record { at = x.0; place = place; event = x.1 }) (stamped_from (place + 1) rows) (stamped_fits r x is) later
     go (Err f) is later = later
 
-turns_kept : (limit : ℕ) (xs : List Stamped) → limit ≤ event_cap → NoneOf (order_at limit xs) (length xs) → All Fits xs → (n : ℕ) → n ≤ length xs → IsBoundedHistory (events_of (take n xs))
-turns_kept limit xs most none fits zero le = none_kept
-turns_kept limit xs most none fits (suc n) le =
+turns_kept : (limit : Limit) (xs : List Stamped) → NoneOf (order_at limit xs) (length xs) → All Fits xs → (n : ℕ) → n ≤ length xs → IsBoundedBy limit.writers (events_of (take n xs))
+turns_kept limit xs none fits zero le = bounded_nil limit.writers
+turns_kept limit xs none fits (suc n) le =
     let before = events_of (take n xs) in
     let s = get_or xs n nothing in
     let longer : events_of (take (suc n) xs) ≡ before ++ s.event ∷ [] = ap events_of (take-suc xs n nothing (omega arith)) ∙ map-append (λ (z : Stamped). z.event) (take n xs) (s ∷ []) in
-    subst IsBoundedHistory (sym longer)
-    (kept_push limit before s.event most (turns_kept limit xs most none fits n (omega arith)) (none_refused limit before s.event (none n (omega arith))) (All-get_or Fits xs n nothing (omega arith) fits))
+    subst (IsBoundedBy limit.writers) (sym longer)
+    (bounded_push limit before s.event (turns_kept limit xs none fits n (omega arith)) (none_refused limit before s.event (none n (omega arith))) (All-get_or Fits xs n nothing (omega arith) fits))
 
 -- ---- a text
 
-read_kept : (limit : ℕ) (rows : List Fields) (events : List Event) → limit ≤ event_cap → RowsRead limit rows events → IsBoundedHistory events
-read_kept limit [] events most read = absurd read
-read_kept limit (head ∷ rows) events most (inl (heads, none, is)) =
+read_kept : (limit : Limit) (rows : List Fields) (events : List Event) → RowsRead limit rows events → IsBoundedBy limit.writers events
+read_kept limit [] events read = absurd read
+read_kept limit (head ∷ rows) events (inl (heads, none, is)) =
     let whole : take (length rows) rows ≡ rows = take_all (length rows) rows (omega arith) in
-    subst IsBoundedHistory (sym is) (subst (λ r. IsBoundedHistory (events_in r)) whole (rows_kept limit rows most none (length rows) (omega arith)))
-read_kept limit (head ∷ rows) events most (inr (heads, read)) =
+    subst (IsBoundedBy limit.writers) (sym is) (subst (λ r. IsBoundedBy limit.writers (events_in r)) whole (rows_kept limit rows none (length rows) (omega arith)))
+read_kept limit (head ∷ rows) events (inr (heads, read)) =
     let xs = read.sorted in
     let whole : take (length xs) xs ≡ xs = take_all (length xs) xs (omega arith) in
     let fits = All-permutation Fits (stamped_in rows) xs read.order.same (all_fit 2 rows) in
-    subst IsBoundedHistory (sym read.history) (subst (λ z. IsBoundedHistory (events_of z)) whole (turns_kept limit xs most read.fine fits (length xs) (omega arith)))
+    subst (IsBoundedBy limit.writers) (sym read.history) (subst (λ z. IsBoundedBy limit.writers (events_of z)) whole (turns_kept limit xs read.fine fits (length xs) (omega arith)))
 
-pub text_kept : (limit : ℕ) (text : List ℕ) (events : List Event) → limit ≤ event_cap → IsText limit text events → IsBoundedHistory events
-text_kept limit text events most read = read_kept limit (rows_of text) events most read.1
+pub text_kept : (limit : Limit) (text : List ℕ) (events : List Event) → IsText limit text events → IsBoundedBy limit.writers events
+text_kept limit text events read = read_kept limit (rows_of text) events read.1

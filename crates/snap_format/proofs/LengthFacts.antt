@@ -1,5 +1,6 @@
 -- How long the text of a history can be.
 use Rattle.std.proofs.Common.{◌≡◌, ◌<◌, ◌≤◌, ◌+◌, ◌*◌, ◌==◌, ◌++◌, not, cond, ℕ, suc, zero, Bool, true, false, List, [], ◌∷◌, length, map, refl, arith, ◌∙◌, sym, ap, subst}
+use Rattle.snap_core.specs.declared.limit.Limit.{Limit}
 use Rattle.std.specs.Prelude.{decimal, filter, codes, nat_lt}
 use Rattle.std.specs.List.{All, sum_by}
 use Rattle.std.proofs.lemmas.Bool.{and_parts, eq-eqb, eqb-true, ltb-true}
@@ -14,7 +15,8 @@ use Rattle.snap_core.specs.declared.entry.Entry.{Entry}
 use Rattle.snap_core.specs.declared.event.Event.{Event}
 use Rattle.snap_core.specs.declared.event.Event.TheVariants.{BeginUpdate, BeginView, EndUpdate, EndView}
 use Rattle.snap_core.specs.Entries.{AreEntries, EntryFits, rises}
-use Rattle.snap_core.specs.Events.{EventFits, TakeTurns, IsBegin, Ends, IsBoundedHistory, IsWellFormed, events_of, process_of}
+use Rattle.snap_core.specs.Events.{EventFits, TakeTurns, IsBegin, Ends, IsWellFormed, events_of, process_of}
+use Rattle.snap_core.specs.Bounded.{IsBoundedOrdered}
 use Rattle.snap_core.specs.Refusals.{is_begin}
 use Rattle.snap_format.specs.Laws.{ListsAtMost}
 use Rattle.snap_format.specs.Texts.{bytes_within}
@@ -168,8 +170,8 @@ text_weight : (xs : List Event) → length (history_text xs) ≡ 22 + sum_by wei
 unfolding history_text
 text_weight xs = omega (arith, length-flat_map record_text (header ∷ map spelled xs), sum_by-cons (λ r. length (record_text r)) header (map spelled xs), record_long (codes "event") (codes "process") (codes "op") (codes "data"), map_weights xs)
 
-pub text_short : (limit : ℕ) (xs : List Event) → 1 ≤ limit → IsBoundedHistory xs → 4 * length xs ≤ limit → length (history_text xs) ≤ bytes_within limit
-text_short limit xs some k few = omega (arith, text_weight xs, all_short (length xs) xs (omega arith) k.history.well_formed k.fit, few)
+pub text_short : (limit : Limit) (xs : List Event) → IsBoundedOrdered xs → 4 * length xs ≤ limit.events → length (history_text xs) ≤ bytes_within limit
+text_short limit xs k few = omega (arith, text_weight xs, all_short (length xs) xs (omega arith) k.history.well_formed k.fit, few, limit.fits.0)
 
 -- ---- views of few entries
 
@@ -184,5 +186,5 @@ each_narrow [] f few = omega arith
 each_narrow (x ∷ xs) f few =
     omega (arith, narrow_short x (All-head EventFits x xs f) (All-head (ListsAtMost 36) x xs few), each_narrow xs (All-tail EventFits x xs f) (All-tail (ListsAtMost 36) x xs few), sum_by-cons weight x xs)
 
-pub narrow_text_short : (limit : ℕ) (xs : List Event) → 1 ≤ limit → IsBoundedHistory xs → length xs ≤ limit → All (ListsAtMost 36) xs → length (history_text xs) ≤ bytes_within limit
-narrow_text_short limit xs some k short few = omega (arith, text_weight xs, each_narrow xs k.fit few, short)
+pub narrow_text_short : (limit : Limit) (xs : List Event) → IsBoundedOrdered xs → length xs ≤ limit.events → All (ListsAtMost 36) xs → length (history_text xs) ≤ bytes_within limit
+narrow_text_short limit xs k short few = omega (arith, text_weight xs, each_narrow xs k.fit few, short, limit.fits.0)

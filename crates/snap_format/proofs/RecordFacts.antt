@@ -1,5 +1,6 @@
 -- The record of each event's number spells it.
 use Rattle.std.proofs.Common.{◌≡◌, ◌<◌, ◌+◌, ◌^◌, ◌==◌, cond, inl, inr, ℕ, suc, Bool, true, false, not, List, [], ◌∷◌, length, map, get_or, Some, None, Result, Ok, Err, refl, arith, ◌∙◌, sym, ap, subst}
+use Rattle.snap_core.specs.declared.limit.Limit.{Limit}
 use Rattle.std.specs.Prelude.{decimal, nat_le, slice_get}
 use Rattle.std.specs.List.{IsDistinct, range_with_len}
 use Rattle.std.proofs.lemmas.Bool.Decides.{nat_tests}
@@ -28,15 +29,15 @@ use Rattle.snap_format.proofs.StampOnce.{flips, one_sort}
 
 -- ---- records without a fault have the fields of an event
 
-only_fits : (limit : ℕ) (b c : Bool) (before : List Event) (res : Result Event TextFault) → cond (not b) (Some faults.Fields) (cond c (Some faults.TooMany) (fault_with limit before res)) ≡ None → (x : Event) × (res ≡ Ok x)
+only_fits : (limit : Limit) (b c : Bool) (before : List Event) (res : Result Event TextFault) → cond (not b) (Some faults.Fields) (cond c (Some faults.TooMany) (fault_with limit before res)) ≡ None → (x : Event) × (res ≡ Ok x)
 only_fits limit true false before (Ok x) h = (x, refl)
 only_fits limit true false before (Err f) h = absurd cc
 only_fits limit true true before res h = absurd cc
 only_fits limit false c before res h = absurd cc
 
-fits : (limit : ℕ) (before : List Event) (r : Fields) → row_fault limit before r ≡ None → (x : Event) × (row_event r ≡ Ok x)
+fits : (limit : Limit) (before : List Event) (r : Fields) → row_fault limit before r ≡ None → (x : Event) × (row_event r ≡ Ok x)
 unfolding row_fault
-fits limit before r h = only_fits limit (length r == 4) (nat_le limit (length before)) before (row_event r) h
+fits limit before r h = only_fits limit (length r == 4) (nat_le limit.events (length before)) before (row_event r) h
 
 -- each of these records is read as an event
 Read : List Fields → Type 0
@@ -62,9 +63,9 @@ fresh_fits true false earlier (Err f) h = absurd cc
 fresh_fits true true earlier res h = absurd cc
 fresh_fits false c earlier res h = absurd cc
 
-stamp_fits : (limit : ℕ) (n : ℕ) (earlier : List ℕ) (r : Fields) → shape_fault limit n earlier r ≡ None → (x : ℕ × Event) × (stamped_row r ≡ Ok x)
+stamp_fits : (limit : Limit) (n : ℕ) (earlier : List ℕ) (r : Fields) → shape_fault limit n earlier r ≡ None → (x : ℕ × Event) × (stamped_row r ≡ Ok x)
 unfolding shape_fault
-stamp_fits limit n earlier r h = fresh_fits (length r == 5) (nat_le limit n) earlier (stamped_row r) h
+stamp_fits limit n earlier r h = fresh_fits (length r == 5) (nat_le limit.events n) earlier (stamped_row r) h
 
 stamped_is : (r : Fields) (x : ℕ × Event) → stamped_row r ≡ Ok x → r ≡ stamped_fields x
 unfolding stamped_row row_event
@@ -121,7 +122,7 @@ under_header head rows number j e = let two : number ≡ suc (suc j) = omega (ar
 
 -- ---- the whole
 
-plain_spell : (limit : ℕ) (head : Fields) (rows : List Fields) → NoFault limit rows → SpellEvents (head ∷ rows) (events_in rows) (range_with_len 2 (length rows))
+plain_spell : (limit : Limit) (head : Fields) (rows : List Fields) → NoFault limit rows → SpellEvents (head ∷ rows) (events_in rows) (range_with_len 2 (length rows))
 unfolding Read
 plain_spell limit head rows none =
     let all : Read rows = λ i lt. fits limit _ _ (none i lt) in
@@ -137,7 +138,7 @@ plain_spell limit head rows none =
           (spelled event, under_header head rows number i place ∙ found, inl refl);
     }
 
-stamped_spell : (limit : ℕ) (head : Fields) (rows : List Fields) (sorted : List Stamped) → NoneOf (shape_at limit rows) (length rows) → InOrder rows sorted → SpellEvents (head ∷ rows) (events_of sorted) (places_of sorted)
+stamped_spell : (limit : Limit) (head : Fields) (rows : List Fields) (sorted : List Stamped) → NoneOf (shape_at limit rows) (length rows) → InOrder rows sorted → SpellEvents (head ∷ rows) (events_of sorted) (places_of sorted)
 unfolding ReadStamped
 stamped_spell limit head rows sorted shapes order =
     let all : ReadStamped rows = λ i lt. stamp_fits limit _ _ _ (shapes i lt) in
@@ -169,7 +170,7 @@ stamped_spell limit head rows sorted shapes order =
         ap (λ (rs : List Fields). slice_get rs j) same ∙ slice_get-map (λ (z : Stamped). stamped_fields (stamp_and_event z)) (stamped_in rows) j ∙ rw there refl in
         (stamped_fields (s.at, event), under_header head rows number j place ∙ found ∙ ap (λ (x : Event). Some (stamped_fields (s.at, x))) is_event, inr (s.at, refl))
 
-pub rows_spell : (limit : ℕ) (rows : List Fields) (events : List Event) (records : List ℕ) → RowsRead limit rows events → RowsNumbered rows records → SpellEvents rows events records
+pub rows_spell : (limit : Limit) (rows : List Fields) (events : List Event) (records : List ℕ) → RowsRead limit rows events → RowsNumbered rows records → SpellEvents rows events records
 rows_spell limit [] events records read numbers = absurd read
 rows_spell limit (head ∷ rows) events records (inl read) (inl numbers) = rw (read.2, numbers.1) (plain_spell limit head rows read.1)
 rows_spell limit (head ∷ rows) events records (inl read) (inr numbers) = absurd (one_header head read.0 numbers.0)
@@ -178,5 +179,5 @@ rows_spell limit (head ∷ rows) events records (inr (stamped, read)) (inr numbe
     let same : read.sorted ≡ numbers.1 = one_sort rows read.sorted numbers.1 read.order numbers.2 in
     rw (read.history, numbers.3, ← same) (stamped_spell limit head rows read.sorted read.shapes read.order)
 
-pub records_spell : (limit : ℕ) (text : List ℕ) (events : List Event) (records : List ℕ) → HaveRecords limit text events records → SpellEvents (rows_of text) events records
+pub records_spell : (limit : Limit) (text : List ℕ) (events : List Event) (records : List ℕ) → HaveRecords limit text events records → SpellEvents (rows_of text) events records
 records_spell limit text events records h = rows_spell limit (rows_of text) events records h.history.1 h.numbers

@@ -1,5 +1,6 @@
 -- Where stamps repeat: by a sort, and by a set of those before.
 use Rattle.std.proofs.Common.{◌≡◌, ◌<◌, ◌≤◌, ◌+◌, ◌-◌, ◌++◌, ◌||◌, cond, eqb, inl, inr, ℕ, zero, suc, Bool, true, false, not, List, [], ◌∷◌, length, map, get_or, take, Some, None, Result, Ok, Err, refl, arith, ◌∙◌, sym, ap, subst, add-one}
+use Rattle.snap_core.specs.declared.limit.Limit.{Limit}
 use Rattle.std.specs.Prelude.{◌==◌, ◌↔◌, IsTrue, nat_le, slice_index}
 use Rattle.std.specs.BTreeSet.{BTreeSet, Updates, contains}
 use Rattle.std.specs.BTreeMap.{is_at}
@@ -187,9 +188,9 @@ text_order xs ys zs p up q falls_not =
 -- ---- records and their repeats
 
 -- an earlier stamp only adds a fault where there was none
-none_else : (limit n : ℕ) (earlier : List ℕ) (r : Fields) (x : ℕ × Event) → shape_fault limit n [] r ≡ None → stamped_row r ≡ Ok x → shape_fault limit n earlier r ≡ repeat_fault earlier (Ok x)
+none_else : (limit : Limit) (n : ℕ) (earlier : List ℕ) (r : Fields) (x : ℕ × Event) → shape_fault limit n [] r ≡ None → stamped_row r ≡ Ok x → shape_fault limit n earlier r ≡ repeat_fault earlier (Ok x)
 unfolding shape_fault
-none_else limit n earlier r x none is = go (length r == 5) (nat_le limit n) none
+none_else limit n earlier r x none is = go (length r == 5) (nat_le limit.events n) none
   where
     go : (b c : Bool) → cond (not b) (Some faults.Fields) (cond c (Some faults.TooMany) (repeat_fault [] (stamped_row r))) ≡ None
         → cond (not b) (Some faults.Fields) (cond c (Some faults.TooMany) (repeat_fault earlier (stamped_row r))) ≡ repeat_fault earlier (Ok x)
@@ -197,9 +198,9 @@ none_else limit n earlier r x none is = go (length r == 5) (nat_le limit n) none
     go true true e = absurd cc
     go false c e = absurd cc
 
-still_faulty : (limit n : ℕ) (earlier : List ℕ) (r : Fields) (f : TextFault) → shape_fault limit n [] r ≡ Some f → shape_fault limit n earlier r ≡ Some f
+still_faulty : (limit : Limit) (n : ℕ) (earlier : List ℕ) (r : Fields) (f : TextFault) → shape_fault limit n [] r ≡ Some f → shape_fault limit n earlier r ≡ Some f
 unfolding shape_fault
-still_faulty limit n earlier r f some = go (length r == 5) (nat_le limit n) (stamped_row r) some
+still_faulty limit n earlier r f some = go (length r == 5) (nat_le limit.events n) (stamped_row r) some
   where
     go : (b c : Bool) (o : Result (ℕ × Event) TextFault) → cond (not b) (Some faults.Fields) (cond c (Some faults.TooMany) (repeat_fault [] o)) ≡ Some f
         → cond (not b) (Some faults.Fields) (cond c (Some faults.TooMany) (repeat_fault earlier o)) ≡ Some f
@@ -220,21 +221,21 @@ taken_from place (r ∷ rows) (x ∷ xs) short each (suc j) le =
     let p : place ≡ x.place = omega (arith, h.1) in
     rw (h.0, t) (ap (λ n. record { at = x.at; place = n; event = x.event } ∷ take j xs) p)
 
-taken : (limit : ℕ) (rows : List Fields) (xs : List Stamped) → FirstRecords limit rows xs → (j : ℕ) → j ≤ length xs → stamped_in (take j rows) ≡ take j xs
+taken : (limit : Limit) (rows : List Fields) (xs : List Stamped) → FirstRecords limit rows xs → (j : ℕ) → j ≤ length xs → stamped_in (take j rows) ≡ take j xs
 taken limit rows xs h j le = taken_from 2 rows xs h.within (λ i lt. let e = h.each i lt in (e.spells, omega (arith, e.numbered))) j le
 
 -- the fault of a record that was taken is that its stamp repeats
-fault_here : (limit : ℕ) (rows : List Fields) (xs : List Stamped) → FirstRecords limit rows xs → (i : ℕ) → i < length xs → shape_at limit rows i ≡ cond (repeats_at xs i) (Some faults.Repeated) None
+fault_here : (limit : Limit) (rows : List Fields) (xs : List Stamped) → FirstRecords limit rows xs → (i : ℕ) → i < length xs → shape_at limit rows i ≡ cond (repeats_at xs i) (Some faults.Repeated) None
 fault_here limit rows xs h i lt =
     let e = h.each i lt in
     ap (λ zs. shape_fault limit i (stamps_of zs) (get_or rows i [])) (taken limit rows xs h i (omega (arith, lt)))
     ∙ none_else limit i (stamps_of (take i xs)) (get_or rows i []) ((get_or xs i nothing).at, (get_or xs i nothing).event) e.fine e.spells
 
-no_fault : (limit : ℕ) (rows : List Fields) (xs : List Stamped) → FirstRecords limit rows xs → ((i : ℕ) → i < length xs → repeats_at xs i ≡ false) → NoneOf (shape_at limit rows) (length xs)
+no_fault : (limit : Limit) (rows : List Fields) (xs : List Stamped) → FirstRecords limit rows xs → ((i : ℕ) → i < length xs → repeats_at xs i ≡ false) → NoneOf (shape_at limit rows) (length xs)
 no_fault limit rows xs h none i lt = fault_here limit rows xs h i lt ∙ rw (none i lt) refl
 
 -- the numbers of the records that were taken rise
-pub places_rise : (limit : ℕ) (rows : List Fields) (xs : List Stamped) → FirstRecords limit rows xs → IsStrictlyIncreasing (places_of xs)
+pub places_rise : (limit : Limit) (rows : List Fields) (xs : List Stamped) → FirstRecords limit rows xs → IsStrictlyIncreasing (places_of xs)
 places_rise limit rows xs h k lt =
     let size = length-map xs (λ (x : Stamped). x.place) in
     let next : k + 1 < length xs = omega (arith, size, lt) in
@@ -244,7 +245,7 @@ places_rise limit rows xs h k lt =
     let there = (h.each (k + 1) next).numbered in
     omega (arith, a, b, here, there)
 
-pub repeat_stops : (limit : ℕ) (rows : List Fields) (xs : List Stamped) (place : ℕ) → FirstRecords limit rows xs → FirstRepeat xs place → RefusesStamps limit rows (refusals.Text place faults.Repeated)
+pub repeat_stops : (limit : Limit) (rows : List Fields) (xs : List Stamped) (place : ℕ) → FirstRecords limit rows xs → FirstRepeat xs place → RefusesStamps limit rows (refusals.Text place faults.Repeated)
 repeat_stops limit rows xs place h r = inl (record {
   i = r.i;
   record_is = r.record_is ∙ (h.each r.i r.below).numbered;
@@ -255,7 +256,7 @@ repeat_stops limit rows xs place h r = inl (record {
   };
 })
 
-pub fault_stops : (limit : ℕ) (rows : List Fields) (xs : List Stamped) (e : ReadRefusal) → ReadsStamped limit rows xs (Err e) → IsDistinct (λ a b. a == b) (stamps_of xs) → RefusesStamps limit rows e
+pub fault_stops : (limit : Limit) (rows : List Fields) (xs : List Stamped) (e : ReadRefusal) → ReadsStamped limit rows xs (Err e) → IsDistinct (λ a b. a == b) (stamps_of xs) → RefusesStamps limit rows e
 fault_stops limit rows xs (refusals.Text p f) (h, stops) apart =
     inl (record {
       i = length xs;
@@ -269,7 +270,7 @@ fault_stops limit rows xs (refusals.Text p f) (h, stops) apart =
 fault_stops limit rows xs refusals.Device (h, stops) apart = stops
 fault_stops limit rows xs refusals.Memory (h, stops) apart = tt
 
-pub all_taken : (limit : ℕ) (rows : List Fields) (xs : List Stamped) → ReadsStamped limit rows xs (Ok tt) → IsDistinct (λ a b. a == b) (stamps_of xs) → NoneOf (shape_at limit rows) (length rows) × (xs ≡ stamped_in rows)
+pub all_taken : (limit : Limit) (rows : List Fields) (xs : List Stamped) → ReadsStamped limit rows xs (Ok tt) → IsDistinct (λ a b. a == b) (stamps_of xs) → NoneOf (shape_at limit rows) (length rows) × (xs ≡ stamped_in rows)
 all_taken limit rows xs (h, all) apart =
     let none = no_fault limit rows xs h (none_repeats xs apart) in
     let whole : take (length xs) rows ≡ rows = take_all (length xs) rows (omega (arith, all)) in

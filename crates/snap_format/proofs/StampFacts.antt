@@ -1,5 +1,6 @@
 -- Reading the records of a text with stamps, and their events in turn.
 use Rattle.std.proofs.Common.{◌≡◌, ◌<◌, ◌≤◌, ◌+◌, ◌^◌, ◌++◌, inl, inr, ℕ, suc, true, false, List, [], ◌∷◌, length, get_or, take, drop, Some, None, Ok, Err, refl, arith, ◌∙◌, sym, ap, subst, add-one}
+use Rattle.snap_core.specs.declared.limit.Limit.{Limit}
 use Rattle.std.specs.Prelude.{◌==◌, ◌≢◌, nat_le}
 use Rattle.std.specs.Global.{Vec}
 use Rattle.std.specs.List.Sorted.{IsPermutation, IsStrictlyIncreasing}
@@ -22,23 +23,23 @@ use Rattle.snap_format.proofs.ReadFacts.{at_drop, full_fails}
 
 -- ---- one record
 
-pub row_short : (limit : ℕ) (n : ℕ) (earlier : List ℕ) (r : Fields) → length r ≢ 5 → shape_fault limit n earlier r ≡ Some faults.Fields
+pub row_short : (limit : Limit) (n : ℕ) (earlier : List ℕ) (r : Fields) → length r ≢ 5 → shape_fault limit n earlier r ≡ Some faults.Fields
 unfolding shape_fault
 row_short limit n earlier r h = let test : (length r == 5) ≡ false = grind (arith, nat_tests) in rw test refl
 
 five_long : (r : Fields) (t a p o d : List ℕ) → r ≡ t ∷ a ∷ p ∷ o ∷ d ∷ [] → (length r == 5) ≡ true
 five_long r t a p o d e = rw e refl
 
-pub row_full : (limit : ℕ) (n : ℕ) (earlier : List ℕ) (r : Fields) (t a p o d : List ℕ) → r ≡ t ∷ a ∷ p ∷ o ∷ d ∷ [] → limit ≤ n → shape_fault limit n earlier r ≡ Some faults.TooMany
+pub row_full : (limit : Limit) (n : ℕ) (earlier : List ℕ) (r : Fields) (t a p o d : List ℕ) → r ≡ t ∷ a ∷ p ∷ o ∷ d ∷ [] → limit.events ≤ n → shape_fault limit n earlier r ≡ Some faults.TooMany
 unfolding shape_fault
 row_full limit n earlier r t a p o d e h =
-    let test : nat_le limit n ≡ true = le-leb _ _ h in
+    let test : nat_le limit.events n ≡ true = le-leb _ _ h in
     rw (five_long r t a p o d e, test) refl
 
-row_fits : (limit : ℕ) (n : ℕ) (earlier : List ℕ) (r : Fields) (t a p o d : List ℕ) → r ≡ t ∷ a ∷ p ∷ o ∷ d ∷ [] → n < limit → shape_fault limit n earlier r ≡ repeat_fault earlier (stamped_row r)
+row_fits : (limit : Limit) (n : ℕ) (earlier : List ℕ) (r : Fields) (t a p o d : List ℕ) → r ≡ t ∷ a ∷ p ∷ o ∷ d ∷ [] → n < limit.events → shape_fault limit n earlier r ≡ repeat_fault earlier (stamped_row r)
 unfolding shape_fault
 row_fits limit n earlier r t a p o d e h =
-    let test : nat_le limit n ≡ false = grind (arith, nat_tests) in
+    let test : nat_le limit.events n ≡ false = grind (arith, nat_tests) in
     rw (five_long r t a p o d e, test) refl
 
 pub no_stamp : (t a p o d : List ℕ) → None ≡ number_at (2 ^ 64) t → stamped_row (t ∷ a ∷ p ∷ o ∷ d ∷ []) ≡ Err faults.BadAt
@@ -56,41 +57,41 @@ unfolding stamped_row
 has_event t a p o d at x h g = rw (← h, g) refl
 
 -- a record is taken only where the history is not full
-has_room : (limit : ℕ) (n : ℕ) (earlier : List ℕ) (r : Fields) → shape_fault limit n earlier r ≡ None → n < limit
+has_room : (limit : Limit) (n : ℕ) (earlier : List ℕ) (r : Fields) → shape_fault limit n earlier r ≡ None → n < limit.events
 unfolding shape_fault
-has_room limit n earlier r h = elim (cases_lt n limit) [
+has_room limit n earlier r h = elim (cases_lt n limit.events) [
   | inl lt ↦ lt
-  | inr le ↦ absurd (full_fails (length r == 5) (nat_le limit n) faults.Fields faults.TooMany (repeat_fault earlier (stamped_row r)) (le-leb _ _ le) h)
+  | inr le ↦ absurd (full_fails (length r == 5) (nat_le limit.events n) faults.Fields faults.TooMany (repeat_fault earlier (stamped_row r)) (le-leb _ _ le) h)
 ]
 
-pub one_longer : (limit : ℕ) (place : ℕ) (old new : List Stamped) (r : Fields) → TakesStamped limit place old new r (Ok tt) → (length old < limit) × (length new ≡ length old + 1)
+pub one_longer : (limit : Limit) (place : ℕ) (old new : List Stamped) (r : Fields) → TakesStamped limit place old new r (Ok tt) → (length old < limit.events) × (length new ≡ length old + 1)
 one_longer limit place old new r (none, x, is, longer) = (has_room limit _ _ r none, rw longer (omega (arith, length-append old (record { at = x.0; place = place; event = x.1 } ∷ []))))
 
-pub row_fails : (limit : ℕ) (place : ℕ) (old : List Stamped) (r : Fields) (t a p o d : List ℕ) (e : ReadRefusal) → r ≡ t ∷ a ∷ p ∷ o ∷ d ∷ [] → length old < limit
+pub row_fails : (limit : Limit) (place : ℕ) (old : List Stamped) (r : Fields) (t a p o d : List ℕ) (e : ReadRefusal) → r ≡ t ∷ a ∷ p ∷ o ∷ d ∷ [] → length old < limit.events
     → FailsFields place e (stamped_row r) → RefusesStamped limit place old r e
 row_fails limit place old r t a p o d (refusals.Text q f) e lt g = (g.0, row_fits limit (length old) [] r t a p o d e lt ∙ ap (repeat_fault []) g.1)
 row_fails limit place old r t a p o d refusals.Device e lt g = g
 row_fails limit place old r t a p o d refusals.Memory e lt g = tt
 
-pub row_taken : (limit : ℕ) (place : ℕ) (old new : List Stamped) (r : Fields) (t a p o d : List ℕ) (x : ℕ × Event) → r ≡ t ∷ a ∷ p ∷ o ∷ d ∷ [] → length old < limit
+pub row_taken : (limit : Limit) (place : ℕ) (old new : List Stamped) (r : Fields) (t a p o d : List ℕ) (x : ℕ × Event) → r ≡ t ∷ a ∷ p ∷ o ∷ d ∷ [] → length old < limit.events
     → stamped_row r ≡ Ok x → new ≡ old ++ record { at = x.0; place = place; event = x.1 } ∷ [] → TakesStamped limit place old new r (Ok tt)
 row_taken limit place old new r t a p o d x e lt g is = (row_fits limit (length old) [] r t a p o d e lt ∙ ap (repeat_fault []) g, x, g, is)
 
 -- ---- one record after the other
 
 -- what is left to be read is the records from place i under the header on, and the stamped events are those of the records before it
-pub record MidStamped (limit : ℕ) (rows : List Fields) (Left : List Fields → Type 0) (xs : List Stamped) (i : ℕ) : Type 0 where
+pub record MidStamped (limit : Limit) (rows : List Fields) (Left : List Fields → Type 0) (xs : List Stamped) (i : ℕ) : Type 0 where
   pub left : Left (drop i rows)
   pub count : length xs ≡ i
   pub first : FirstRecords limit rows xs
 
-pub begun : (limit : ℕ) (rows : List Fields) (Left : List Fields → Type 0) (xs : List Stamped) → Left rows → xs ≡ [] → MidStamped limit rows Left xs 0
+pub begun : (limit : Limit) (rows : List Fields) (Left : List Fields → Type 0) (xs : List Stamped) → Left rows → xs ≡ [] → MidStamped limit rows Left xs 0
 begun limit rows Left xs s none = rw none (record { left = s; count = refl; first = record { within = omega arith; each = λ j lt. absurd (omega arith) } })
 
-pub done : (limit : ℕ) (rows : List Fields) (Left : List Fields → Type 0) (xs : List Stamped) (i : ℕ) (m : MidStamped limit rows Left xs i) → drop i rows ≡ [] → ReadsStamped limit rows xs (Ok tt)
+pub done : (limit : Limit) (rows : List Fields) (Left : List Fields → Type 0) (xs : List Stamped) (i : ℕ) (m : MidStamped limit rows Left xs i) → drop i rows ≡ [] → ReadsStamped limit rows xs (Ok tt)
 done limit rows Left xs i m e = (m.first, omega (arith, m.count, m.first.within, length-drop i rows, ap length e))
 
-pub stopped : (limit : ℕ) (rows : List Fields) (Left : List Fields → Type 0) (xs new : List Stamped) (i : ℕ) (m : MidStamped limit rows Left xs i) (row : Fields) (rest : List Fields) (e : ReadRefusal)
+pub stopped : (limit : Limit) (rows : List Fields) (Left : List Fields → Type 0) (xs new : List Stamped) (i : ℕ) (m : MidStamped limit rows Left xs i) (row : Fields) (rest : List Fields) (e : ReadRefusal)
     → drop i rows ≡ row ∷ rest → TakesStamped limit (i + 2) xs new row (Err e) → ReadsStamped limit rows new (Err e)
 stopped limit rows Left xs new i m row rest e d (same, t) = rw same (m.first, next e t)
   where
@@ -99,7 +100,7 @@ stopped limit rows Left xs new i m row rest e d (same, t) = rw same (m.first, ne
     next refusals.Device t = t
     next refusals.Memory t = tt
 
-pub more : (limit : ℕ) (rows : List Fields) (A B : List Fields → Type 0) (old new : List Stamped) (i : ℕ) (m : MidStamped limit rows A old i) (row : Fields)
+pub more : (limit : Limit) (rows : List Fields) (A B : List Fields → Type 0) (old new : List Stamped) (i : ℕ) (m : MidStamped limit rows A old i) (row : Fields)
     → (rest : List Fields) × (drop i rows ≡ row ∷ rest) × B rest → TakesStamped limit (i + 2) old new row (Ok tt) → MidStamped limit rows B new (i + 1)
 more limit rows A B old new i m row (rest, d, s) (none, x, is, longer) =
     let (lt, here, next) = at_drop rows i row rest d in
@@ -122,7 +123,7 @@ more limit rows A B old new i m row (rest, d, s) (none, x, is, longer) =
 -- ---- one event after the other
 
 -- so many events in order are taken as the history has
-pub record MidTurns (limit : ℕ) (xs left : List Stamped) (events : List Event) : Type 0 where
+pub record MidTurns (limit : Limit) (xs left : List Stamped) (events : List Event) : Type 0 where
   pub within : length events ≤ length xs
   pub left_is : left ≡ drop (length events) xs
   pub history : events ≡ events_of (take (length events) xs)
@@ -138,7 +139,7 @@ turn_drop xs i y rest e = elim (cases_lt i (length xs)) [
   | inr le ↦ let none = drop_all i xs le in absurd (cc)
 ]
 
-pub turns_stopped : (limit : ℕ) (xs left rest : List Stamped) (events : List Event) (y : Stamped) (place : ℕ) (x : Event) (e : ReadRefusal) → MidTurns limit xs left events → left ≡ y ∷ rest → y.place ≡ place → y.event ≡ x
+pub turns_stopped : (limit : Limit) (xs left rest : List Stamped) (events : List Event) (y : Stamped) (place : ℕ) (x : Event) (e : ReadRefusal) → MidTurns limit xs left events → left ≡ y ∷ rest → y.place ≡ place → y.event ≡ x
     → TakesEvent limit place events events x (Err e) → RefusesTurns limit xs e
 turns_stopped limit xs left rest events y place x (refusals.Text p f) m l yp yx t =
     let (lt, here, next) = turn_drop xs (length events) y rest (sym l ∙ m.left_is) in (
@@ -149,7 +150,7 @@ turns_stopped limit xs left rest events y place x (refusals.Text p f) m l yp yx 
 turns_stopped limit xs left rest events y place x refusals.Device m l yp yx t = t
 turns_stopped limit xs left rest events y place x refusals.Memory m l yp yx t = tt
 
-pub turns_more : (limit : ℕ) (xs left rest : List Stamped) (old new : List Event) (y : Stamped) (place : ℕ) (x : Event) → MidTurns limit xs left old → left ≡ y ∷ rest → y.event ≡ x
+pub turns_more : (limit : Limit) (xs left rest : List Stamped) (old new : List Event) (y : Stamped) (place : ℕ) (x : Event) → MidTurns limit xs left old → left ≡ y ∷ rest → y.event ≡ x
     → TakesEvent limit place old new x (Ok tt) → MidTurns limit xs rest new
 turns_more limit xs left rest old new y place x m l yx t =
     let (lt, here, next) = turn_drop xs (length old) y rest (sym l ∙ m.left_is) in
@@ -171,11 +172,11 @@ turns_more limit xs left rest old new y place x m l yx t =
 in_order : (rows : List Fields) (xs ys : List Stamped) → xs ≡ stamped_in rows → IsPermutation xs ys → IsStrictlyIncreasing (stamps_of ys) → InOrder rows ys
 in_order rows xs ys read p up = record { same = subst (λ (z : List Stamped). IsPermutation z ys) read p; rising = up }
 
-pub whole : (limit : ℕ) (rows : List Fields) (xs ys : List Stamped) (h : LimitedEvents) (places : Vec ℕ) → NoneOf (shape_at limit rows) (length rows) × (xs ≡ stamped_in rows) → IsPermutation xs ys → IsStrictlyIncreasing (stamps_of ys)
+pub whole : (limit : Limit) (rows : List Fields) (xs ys : List Stamped) (h : LimitedEvents) (places : Vec ℕ) → NoneOf (shape_at limit rows) (length rows) × (xs ≡ stamped_in rows) → IsPermutation xs ys → IsStrictlyIncreasing (stamps_of ys)
     → TakesTurns limit ys (Ok h) → places.items ≡ places_of ys → AnswersStamps limit rows (Ok (h, places))
 whole limit rows xs ys h places read p up t is = (record { shapes = read.0; sorted = ys; order = in_order rows xs ys read.1 p up; fine = t.0; history = t.1 }, is, t.2)
 
-pub turns_stop : (limit : ℕ) (rows : List Fields) (xs ys : List Stamped) (e : ReadRefusal) → NoneOf (shape_at limit rows) (length rows) × (xs ≡ stamped_in rows) → IsPermutation xs ys → IsStrictlyIncreasing (stamps_of ys)
+pub turns_stop : (limit : Limit) (rows : List Fields) (xs ys : List Stamped) (e : ReadRefusal) → NoneOf (shape_at limit rows) (length rows) × (xs ≡ stamped_in rows) → IsPermutation xs ys → IsStrictlyIncreasing (stamps_of ys)
     → RefusesTurns limit ys e → RefusesStamps limit rows e
 turns_stop limit rows xs ys (refusals.Text q f) read p up t =
     inr (record { shapes = read.0; sorted = ys; order = in_order rows xs ys read.1 p up; i = t.0; first = t.1; record_is = t.2 })

@@ -1,5 +1,6 @@
 -- The text of a history with stamps has the records of its events, and no fault.
 use Rattle.std.proofs.Common.{zip, ◌≡◌, ◌<◌, ◌≤◌, ◌+◌, ◌^◌, ◌++◌, ◌==◌, ℕ, suc, zero, false, true, List, [], ◌∷◌, length, map, take, get_or, None, Ok, refl, arith, ◌∙◌, sym, ap, subst, inr}
+use Rattle.snap_core.specs.declared.limit.Limit.{Limit}
 use Rattle.std.specs.Prelude.{codes, decimal, nat_le}
 use Rattle.std.specs.List.{All, AllByRecursion, flat_map, list_any}
 use Rattle.std.specs.List.Sorted.{IsStrictlyIncreasing}
@@ -15,7 +16,9 @@ use Rattle.csv.specs.Reading.{default_config, records, strip_bom}
 use Rattle.csv.specs.Writing.{fields_text, is_blank, read_back}
 use Rattle.snap_core.specs.declared.event.Event.{Event}
 use Rattle.snap_core.specs.declared.event.Event.TheVariants.{BeginUpdate, BeginView, EndUpdate, EndView}
-use Rattle.snap_core.specs.Events.{EventFits, IsHistory, IsBoundedHistory}
+use Rattle.snap_core.specs.Events.{EventFits}
+use Rattle.snap_core.specs.Bounded.{IsBoundedBy, IsHistoryBy}
+use Rattle.snap_core.proofs.OrderedPushes.{is_ordered_by}
 use Rattle.snap_text.specs.Fields.{Fields, row_event}
 use Rattle.snap_format.specs.Rows.{rows_of}
 use Rattle.snap_format.specs.Layout.{record_text, stamped_fields, stamped_header, stamped_lines, stamped_text}
@@ -141,13 +144,13 @@ five_fields (n, BeginView p) = refl
 five_fields (n, EndUpdate p) = refl
 five_fields (n, EndView p es) = refl
 
-shape_fine : (limit : ℕ) (n : ℕ) (earlier : List ℕ) (p : Stamp) → n < limit → stamped_row (stamped_fields p) ≡ Ok p → list_any (λ s. p.0 == s) earlier ≡ false → shape_fault limit n earlier (stamped_fields p) ≡ None
+shape_fine : (limit : Limit) (n : ℕ) (earlier : List ℕ) (p : Stamp) → n < limit.events → stamped_row (stamped_fields p) ≡ Ok p → list_any (λ s. p.0 == s) earlier ≡ false → shape_fault limit n earlier (stamped_fields p) ≡ None
 unfolding shape_fault
 shape_fine limit n earlier p lt b none =
-    let test : nat_le limit n ≡ false = grind (arith, nat_tests) in
+    let test : nat_le limit.events n ≡ false = grind (arith, nat_tests) in
     rw (five_fields p, test, b, none) refl
 
-shapes_fine : (limit : ℕ) (at : List ℕ) (xs : List Event) → length at ≡ length xs → length xs ≤ limit → IsStrictlyIncreasing at → AllBack (zip at xs) → NoneOf (shape_at limit (map stamped_fields (zip at xs))) (length (map stamped_fields (zip at xs)))
+shapes_fine : (limit : Limit) (at : List ℕ) (xs : List Event) → length at ≡ length xs → length xs ≤ limit.events → IsStrictlyIncreasing at → AllBack (zip at xs) → NoneOf (shape_at limit (map stamped_fields (zip at xs))) (length (map stamped_fields (zip at xs)))
 shapes_fine limit at xs same short up b i lt =
     let ps = zip at xs in
     let d : Stamp = (0, BeginView 0) in
@@ -171,16 +174,16 @@ shapes_fine limit at xs same short up b i lt =
     ∙ ap (λ (e : List ℕ). shape_fault limit i e (get_or (map stamped_fields ps) i [])) stamps
     ∙ ap (shape_fault limit i (take i at)) there ∙ fine
 
-events_fine : (limit : ℕ) (xs : List Event) → IsHistory xs → length xs ≤ limit → (i : ℕ) (d : Event) → i < length xs → fault_with limit (take i xs) (Ok (get_or xs i d)) ≡ None
+events_fine : (limit : Limit) (xs : List Event) → IsHistoryBy limit.writers xs → length xs ≤ limit.events → (i : ℕ) (d : Event) → i < length xs → fault_with limit (take i xs) (Ok (get_or xs i d)) ≡ None
 events_fine limit xs h short i d lt =
     let p = place xs i lt in
-    let fine = none_then limit p.before p.here (not_refused limit p.before p.here p.behind (subst (λ (t : List Event). IsHistory t) p.whole h) (omega (arith, p.count, lt, short))) in
+    let fine = none_then limit p.before p.here (not_refused limit p.before p.here p.behind (subst (IsHistoryBy limit.writers) p.whole h) (omega (arith, p.count, lt, short))) in
     let before : take i (p.before ++ p.here ∷ p.behind) ≡ p.before = subst (λ n. take n (p.before ++ p.here ∷ p.behind) ≡ p.before) p.count (take-append_seam p.before (p.here ∷ p.behind)) in
     let here : get_or (p.before ++ p.here ∷ p.behind) i d ≡ p.here = subst (λ n. get_or (p.before ++ p.here ∷ p.behind) n d ≡ p.here) p.count (get_or-append_seam p.before p.here p.behind d) in
     ap (λ (t : List Event). fault_with limit (take i t) (Ok (get_or t i d))) p.whole
     ∙ ap (λ (t : List Event). fault_with limit t (Ok (get_or (p.before ++ p.here ∷ p.behind) i d))) before ∙ ap (λ (x : Event). fault_with limit p.before (Ok x)) here ∙ fine
 
-turns_fine : (limit : ℕ) (ys : List Stamped) (xs : List Event) → events_of ys ≡ xs → IsHistory xs → length xs ≤ limit → NoneOf (order_at limit ys) (length ys)
+turns_fine : (limit : Limit) (ys : List Stamped) (xs : List Event) → events_of ys ≡ xs → IsHistoryBy limit.writers xs → length xs ≤ limit.events → NoneOf (order_at limit ys) (length ys)
 turns_fine limit ys xs e h short i lt =
     let size : length xs ≡ length ys = ap length (sym e) ∙ length-map ys (λ (y : Stamped). y.event) in
     let d : Event = BeginView 0 in
@@ -200,12 +203,12 @@ all_fit (n ∷ at) [] a b = tt
 all_fit (n ∷ at) (x ∷ xs) a b =
     ((All-head (λ n. n < 2 ^ 64) n at a, All-head EventFits x xs b), all_fit at xs (All-tail (λ n. n < 2 ^ 64) n at a) (All-tail EventFits x xs b))
 
-pub stamped_reads : (limit : ℕ) (at : List ℕ) (xs : List Event) → IsBoundedHistory xs → length xs ≤ limit → length at ≡ length xs → IsStrictlyIncreasing at → All (λ n. n < 2 ^ 64) at → length (stamped_text at xs) ≤ bytes_within limit → IsText limit (stamped_text at xs) xs
+pub stamped_reads : (limit : Limit) (at : List ℕ) (xs : List Event) → IsBoundedBy limit.writers xs → length xs ≤ limit.events → length at ≡ length xs → IsStrictlyIncreasing at → All (λ n. n < 2 ^ 64) at → length (stamped_text at xs) ≤ bytes_within limit → IsText limit (stamped_text at xs) xs
 stamped_reads limit at xs k few same up small short =
     let ps = zip at xs in
     let fits = all_fit at xs small k.fit in
     let seconds : map (λ (p : Stamp). p.1) ps ≡ xs = seconds-zip at xs (sym same) in
-    let reads = each_reads xs [] xs k.history.numbered refl k.fit in
+    let reads = each_reads xs [] xs (is_ordered_by limit.writers xs k.history).numbered refl k.fit in
     let back = all_back ps fits (subst (λ (t : List Event). AllByRecursion Reads t) (sym seconds) reads) in
     let rows = map stamped_fields ps in
     let stamps : stamps_of (stamped_in rows) ≡ at = ap stamps_of (from_back 2 ps back) ∙ stamps_back 2 ps ∙ firsts-zip at xs (sym same) in

@@ -1,5 +1,6 @@
 -- The text of a history has the records of its events, and no fault.
 use Rattle.std.proofs.Common.{inl, ◌≡◌, ◌<◌, ◌≤◌, ◌+◌, ◌++◌, ℕ, suc, zero, false, true, ◌==◌, List, [], ◌∷◌, length, map, take, get_or, None, Ok, refl, arith, ◌∙◌, sym, ap, subst, append_assoc, append-nil}
+use Rattle.snap_core.specs.declared.limit.Limit.{Limit}
 use Rattle.std.specs.Prelude.{codes}
 use Rattle.std.specs.List.{All, AllByRecursion, flat_map}
 use Rattle.std.proofs.lemmas.List.{length-append, length-map, map-append}
@@ -14,10 +15,12 @@ use Rattle.csv.proofs.RoundTrip.{read-write}
 use Rattle.snap_core.specs.declared.event.Event.{Event}
 use Rattle.snap_core.specs.declared.event.Event.TheVariants.{BeginUpdate, BeginView, EndUpdate, EndView}
 use Rattle.std.proofs.lemmas.Bool.{lt-leb}
-use Rattle.snap_core.specs.Events.{EventFits, IsHistory, IsBoundedHistory, IsNumbered}
+use Rattle.snap_core.specs.Events.{EventFits, IsNumbered}
+use Rattle.snap_core.specs.Bounded.{IsBoundedBy, IsHistoryBy}
+use Rattle.snap_core.specs.declared.writers.Writers.{Writers}
 use Rattle.snap_core.specs.Refusals.{refusal_of}
 use Rattle.snap_core.proofs.Picks.{is_short, picked}
-use Rattle.snap_core.proofs.Pushes.{history_back}
+use Rattle.snap_core.proofs.OrderedPushes.{history_by_back, is_ordered_by}
 use Rattle.snap_text.specs.Fields.{Fields}
 use Rattle.snap_format.specs.Rows.{rows_of}
 use Rattle.snap_format.specs.Layout.{header, history_text, record_text}
@@ -132,20 +135,20 @@ events_back : (xs : List Event) → AllByRecursion Reads xs → events_in (map s
 events_back [] h = refl
 events_back (x ∷ xs) h = rw (event_back x h.0.0 h.0.1, events_back xs h.1) refl
 
-front : (ys zs : List Event) → IsHistory (ys ++ zs) → IsHistory ys
-front ys [] h = subst (λ (t : List Event). IsHistory t) (append-nil ys) h
-front ys (z ∷ zs) h =
-    let longer = front (ys ++ z ∷ []) zs (subst (λ (t : List Event). IsHistory t) (sym (append_assoc ys (z ∷ []) zs)) h) in
-    (history_back ys z longer).0
+front : (writers : Writers) (ys zs : List Event) → IsHistoryBy writers (ys ++ zs) → IsHistoryBy writers ys
+front writers ys [] h = subst (IsHistoryBy writers) (append-nil ys) h
+front writers ys (z ∷ zs) h =
+    let longer = front writers (ys ++ z ∷ []) zs (subst (IsHistoryBy writers) (sym (append_assoc ys (z ∷ []) zs)) h) in
+    (history_by_back writers ys z longer).0
 
 -- no refusal applies to an event that stands in a history
-pub not_refused : (limit : ℕ) (ys : List Event) (x : Event) (zs : List Event) → IsHistory (ys ++ x ∷ zs) → length ys < limit → refusal_of limit ys x ≡ None
+pub not_refused : (limit : Limit) (ys : List Event) (x : Event) (zs : List Event) → IsHistoryBy limit.writers (ys ++ x ∷ zs) → length ys < limit.events → refusal_of limit ys x ≡ None
 not_refused limit ys x zs h lt =
-    let longer = front (ys ++ x ∷ []) zs (subst (λ (t : List Event). IsHistory t) (sym (append_assoc ys (x ∷ []) zs)) h) in
-    let a = (history_back ys x longer).1 in
-    picked limit ys x false false false false false false (is_short limit ys lt) a.not_busy a.not_idle a.not_other a.writer a.number
+    let longer = front limit.writers (ys ++ x ∷ []) zs (subst (IsHistoryBy limit.writers) (sym (append_assoc ys (x ∷ []) zs)) h) in
+    let a = (history_by_back limit.writers ys x longer).1 in
+    picked limit ys x false false false false false false false (is_short limit ys lt) a.not_busy a.not_idle a.not_other a.writer a.number a.order
 
-pub none_then : (limit : ℕ) (ys : List Event) (x : Event) → refusal_of limit ys x ≡ None → fault_with limit ys (Ok x) ≡ None
+pub none_then : (limit : Limit) (ys : List Event) (x : Event) → refusal_of limit ys x ≡ None → fault_with limit ys (Ok x) ≡ None
 none_then limit ys x none = rw none refl
 
 four_fields : (x : Event) → (length (spelled x) == 4) ≡ true
@@ -154,9 +157,9 @@ four_fields (BeginView p) = refl
 four_fields (EndUpdate p) = refl
 four_fields (EndView p es) = refl
 
-row_clean : (limit : ℕ) (ys : List Event) (x : Event) → length ys < limit → refusal_of limit ys x ≡ None → Reads x → row_fault limit ys (spelled x) ≡ None
+row_clean : (limit : Limit) (ys : List Event) (x : Event) → length ys < limit.events → refusal_of limit ys x ≡ None → Reads x → row_fault limit ys (spelled x) ≡ None
 unfolding row_fault
-row_clean limit ys x lt none h = rw (four_fields x, lt-leb limit (length ys) lt, event_back x h.0 h.1) (none_then limit ys x none)
+row_clean limit ys x lt none h = rw (four_fields x, lt-leb limit.events (length ys) lt, event_back x h.0 h.1) (none_then limit ys x none)
 
 -- an element with what stands before and after it
 pub record Place (xs : List Event) (i : ℕ) : Type 0 where
@@ -181,10 +184,10 @@ reads_here : (ys : List Event) (x : Event) (zs : List Event) → AllByRecursion 
 reads_here [] x zs h = h.0
 reads_here (y ∷ ys) x zs h = reads_here ys x zs h.1
 
-clean_at : (limit : ℕ) (ys : List Event) (x : Event) (zs : List Event) → IsHistory (ys ++ x ∷ zs) → length (ys ++ x ∷ zs) ≤ limit → AllByRecursion Reads (ys ++ x ∷ zs)
+clean_at : (limit : Limit) (ys : List Event) (x : Event) (zs : List Event) → IsHistoryBy limit.writers (ys ++ x ∷ zs) → length (ys ++ x ∷ zs) ≤ limit.events → AllByRecursion Reads (ys ++ x ∷ zs)
     → fault_at limit (map spelled (ys ++ x ∷ zs)) (length ys) ≡ None
 clean_at limit ys x zs h few reads =
-    let lt : length ys < limit = omega (arith, few, length-append ys (x ∷ zs)) in
+    let lt : length ys < limit.events = omega (arith, few, length-append ys (x ∷ zs)) in
     let rows : map spelled (ys ++ x ∷ zs) ≡ map spelled ys ++ spelled x ∷ map spelled zs = map-append spelled ys (x ∷ zs) in
     let len : length (map spelled ys) ≡ length ys = length-map ys spelled in
     let before : take (length ys) (map spelled ys ++ spelled x ∷ map spelled zs) ≡ map spelled ys = rw (← len) (take-append_seam (map spelled ys) (spelled x ∷ map spelled zs)) in
@@ -192,14 +195,14 @@ clean_at limit ys x zs h few reads =
     ap (λ (t : List Fields). fault_at limit t (length ys)) rows
     ∙ rw (before, there, events_back ys (reads_front ys (x ∷ zs) reads)) (row_clean limit ys x lt (not_refused limit ys x zs h lt) (reads_here ys x zs reads))
 
-no_fault : (limit : ℕ) (xs : List Event) → IsHistory xs → length xs ≤ limit → AllByRecursion Reads xs → NoFault limit (map spelled xs)
+no_fault : (limit : Limit) (xs : List Event) → IsHistoryBy limit.writers xs → length xs ≤ limit.events → AllByRecursion Reads xs → NoFault limit (map spelled xs)
 no_fault limit xs h few reads = λ i lt.
     let p = place xs i (omega (arith, lt, length-map xs spelled)) in
-    let here = clean_at limit p.before p.here p.behind (subst (λ (t : List Event). IsHistory t) p.whole h)
-    (subst (λ (t : List Event). length t ≤ limit) p.whole few) (subst (λ (t : List Event). AllByRecursion Reads t) p.whole reads) in
+    let here = clean_at limit p.before p.here p.behind (subst (IsHistoryBy limit.writers) p.whole h)
+    (subst (λ (t : List Event). length t ≤ limit.events) p.whole few) (subst (λ (t : List Event). AllByRecursion Reads t) p.whole reads) in
     subst (λ (t : List Event). fault_at limit (map spelled t) i ≡ None) (sym p.whole) (subst (λ n. fault_at limit (map spelled (p.before ++ p.here ∷ p.behind)) n ≡ None) p.count here)
 
-pub text_reads : (limit : ℕ) (xs : List Event) → IsBoundedHistory xs → length xs ≤ limit → length (history_text xs) ≤ bytes_within limit → IsText limit (history_text xs) xs
+pub text_reads : (limit : Limit) (xs : List Event) → IsBoundedBy limit.writers xs → length xs ≤ limit.events → length (history_text xs) ≤ bytes_within limit → IsText limit (history_text xs) xs
 text_reads limit xs k few short =
-    let reads = each_reads xs [] xs k.history.numbered refl k.fit in
+    let reads = each_reads xs [] xs (is_ordered_by limit.writers xs k.history).numbered refl k.fit in
     (short, rw (text_rows xs k.fit) (inl (refl, no_fault limit xs k.history few reads, sym (events_back xs reads))))

@@ -1,5 +1,6 @@
 -- The records of a text by their numbers, counted from 1, and the record of each event of its history.
 use Rattle.std.specs.Prelude.{◌≡◌, ◌⊎◌, ◌==◌, ℕ, zero, suc, true, List, [], ◌∷◌, length, Option, Some, None, slice_get}
+use Rattle.snap_core.specs.declared.limit.Limit.{Limit}
 use Rattle.std.specs.List.{IsDistinct, range_with_len}
 use Rattle.snap_core.specs.declared.event.Event.{Event}
 use Rattle.snap_format.specs.declared.stamped.Stamped.{Stamped}
@@ -24,7 +25,7 @@ RowsNumbered (head ∷ rows) numbers =
     ⊎ ((is_stamped_header_row head ≡ true) × (sorted : List Stamped) × InOrder rows sorted × (numbers ≡ places_of sorted))
 
 -- a text without a fault, its history of at most `limit` events, and the number of each event's record
-pub record HaveRecords (limit : ℕ) (text : List ℕ) (events : List Event) (records : List ℕ) : Type 0 where
+pub record HaveRecords (limit : Limit) (text : List ℕ) (events : List Event) (records : List ℕ) : Type 0 where
   pub history : IsText limit text events
   pub numbers : RowsNumbered (rows_of text) records
 

@@ -1,5 +1,6 @@
 -- Records with stamps: what each spells, the faults of each, and their events in the order of the stamps.
 use Rattle.std.specs.Prelude.{◌≡◌, ◌<◌, ◌+◌, ◌^◌, ◌⊎◌, ◌==◌, not, nat_le, if◌then◌else◌, slice_index_or, ℕ, List, [], ◌∷◌, length, map, take, Option, Some, None, Result, Ok, Err}
+use Rattle.snap_core.specs.declared.limit.Limit.{Limit}
 use Rattle.std.specs.List.{list_any}
 use Rattle.std.specs.List.Sorted.{IsPermutation, IsStrictlyIncreasing}
 use Rattle.snap_core.specs.declared.event.Event.{Event}
@@ -47,14 +48,14 @@ repeat_fault earlier (Ok x) = if list_any (λ s. x.0 == s) earlier then Some fau
 
 -- the first fault of a record by itself, after `count` records with these stamps. In this order: its number of fields, whether the
 -- history would be full, what the fields spell, and whether its stamp is new
-unfoldable pub shape_fault : ℕ → ℕ → List ℕ → Fields → Option TextFault
+unfoldable pub shape_fault : Limit → ℕ → List ℕ → Fields → Option TextFault
 shape_fault limit count earlier r =
     if not (length r == 5) then Some faults.Fields
-    else if nat_le limit count then Some faults.TooMany
+    else if nat_le limit.events count then Some faults.TooMany
     else repeat_fault earlier (stamped_row r)
 
 -- the first fault by itself of the record at a place among those under the header
-abbrev pub shape_at : ℕ → List Fields → ℕ → Option TextFault
+abbrev pub shape_at : Limit → List Fields → ℕ → Option TextFault
 shape_at limit rows i = shape_fault limit i (stamps_of (stamped_in (take i rows))) (slice_index_or rows i [])
 
 -- what `order_at` and `OrderFault` take if a place has no event
@@ -62,7 +63,7 @@ abbrev pub nothing : Stamped
 nothing = record { at = 0; place = 0; event = BeginView 0 }
 
 -- the fault of an event after those with smaller stamps
-abbrev pub order_at : ℕ → List Stamped → ℕ → Option TextFault
+abbrev pub order_at : Limit → List Stamped → ℕ → Option TextFault
 order_at limit xs i = fault_with limit (events_of (take i xs)) (Ok (slice_index_or xs i nothing).event)
 
 -- none of the first `count` places has a fault
@@ -81,7 +82,7 @@ pub record InOrder (rows : List Fields) (xs : List Stamped) : Type 0 where
   pub rising : IsStrictlyIncreasing (stamps_of xs)
 
 -- no record has a fault by itself, and no event has one after those with smaller stamps
-pub record StampedRead (limit : ℕ) (rows : List Fields) (events : List Event) : Type 0 where
+pub record StampedRead (limit : Limit) (rows : List Fields) (events : List Event) : Type 0 where
   pub shapes : NoneOf (shape_at limit rows) (length rows)
   pub sorted : List Stamped
   pub order : InOrder rows sorted
@@ -89,13 +90,13 @@ pub record StampedRead (limit : ℕ) (rows : List Fields) (events : List Event) 
   pub history : events ≡ events_of sorted
 
 -- the first record with a fault by itself
-pub record ShapeFault (limit : ℕ) (rows : List Fields) (place : ℕ) (f : TextFault) : Type 0 where
+pub record ShapeFault (limit : Limit) (rows : List Fields) (place : ℕ) (f : TextFault) : Type 0 where
   pub i : ℕ
   pub record_is : place ≡ i + 2
   pub first : FirstOf (shape_at limit rows) (length rows) i f
 
 -- no record has a fault by itself; `place` is the record number of the first event, by stamps, that has a fault
-pub record OrderFault (limit : ℕ) (rows : List Fields) (place : ℕ) (f : TextFault) : Type 0 where
+pub record OrderFault (limit : Limit) (rows : List Fields) (place : ℕ) (f : TextFault) : Type 0 where
   pub shapes : NoneOf (shape_at limit rows) (length rows)
   pub sorted : List Stamped
   pub order : InOrder rows sorted
@@ -103,5 +104,5 @@ pub record OrderFault (limit : ℕ) (rows : List Fields) (place : ℕ) (f : Text
   pub first : FirstOf (order_at limit sorted) (length sorted) i f
   pub record_is : place ≡ (slice_index_or sorted i nothing).place
 
-abbrev pub StampedFault : ℕ → List Fields → ℕ → TextFault → Type 0
+abbrev pub StampedFault : Limit → List Fields → ℕ → TextFault → Type 0
 StampedFault limit rows place f = ShapeFault limit rows place f ⊎ OrderFault limit rows place f

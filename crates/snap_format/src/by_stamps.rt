@@ -9,7 +9,7 @@ use crate::refusal::ReadRefusal;
 use crate::repeats::{are_rising, repeated_place, sort_by_stamp};
 use crate::stamped::Stamped;
 use crate::taking::push_event;
-use snap_core::{History, Limit};
+use snap_core::{AnyWriters, History, Limit};
 use snap_text::{Known, TextFault};
 use std::alloc::{AllocError, Global};
 
@@ -22,7 +22,7 @@ pub fn take_stamped(
     place: u32,
     fields: (&[u8], &[u8], &[u8], &[u8], &[u8]),
 ) -> Result<(), ReadRefusal>
-    ensures { TakesStamped limit.events place stamped.old.items stamped.new.items (fields.entry.0.now ∷ fields.entry.1.now ∷ fields.entry.2.now ∷ fields.entry.3.now ∷ fields.entry.4.now ∷ []) result }
+    ensures { TakesStamped limit place stamped.old.items stamped.new.items (fields.entry.0.now ∷ fields.entry.1.now ∷ fields.entry.2.now ∷ fields.entry.3.now ∷ fields.entry.4.now ∷ []) result }
 {
     if stamped.len() >= limit.events() {
         return Err(ReadRefusal::Text {
@@ -43,10 +43,14 @@ fn places_in(alloc: Global, stamped: &[Stamped]) -> Result<Vec<u32>, AllocError>
 }
 
 // The history of events in this order, or the first fault.
-fn take_turns(alloc: Global, stamped: Vec<Stamped>, limit: Limit) -> Result<History, ReadRefusal>
-    ensures { TakesTurns limit.events stamped.items result }
+fn take_turns(
+    alloc: Global,
+    stamped: Vec<Stamped>,
+    limit: Limit,
+) -> Result<History<AnyWriters>, ReadRefusal>
+    ensures { TakesTurns limit stamped.items result }
 {
-    let mut history = History::with_limit(alloc, limit);
+    let mut history = History::of_any(alloc, limit);
     'each: for Stamped {
         at: _,
         place,
@@ -65,8 +69,8 @@ pub fn history_by_stamps(
     mut stamped: Vec<Stamped>,
     read: Result<(), ReadRefusal>,
     limit: Limit,
-) -> Result<(History, Vec<u32>), ReadRefusal>
-    ensures { (rows : List Fields) → ReadsStamped limit.events rows stamped.items read → AnswersStamps limit.events rows result }
+) -> Result<(History<AnyWriters>, Vec<u32>), ReadRefusal>
+    ensures { (rows : List Fields) → ReadsStamped limit rows stamped.items read → AnswersStamps limit rows result }
 {
     sort_by_stamp(&mut stamped);
     if !are_rising(&stamped) {

@@ -16,6 +16,7 @@ pub fn fault_for(refusal: EventRefusal) -> Option<TextFault>
         EventRefusal::OtherOp => Some(TextFault::OtherOp),
         EventRefusal::Writer => Some(TextFault::Writer),
         EventRefusal::Number => Some(TextFault::Number),
+        EventRefusal::Order => Some(TextFault::Order),
         EventRefusal::Memory => None,
     }
 }

@@ -8,7 +8,7 @@ ghost use Rattle.snap_text.specs.Fields.{Fields, row_event};
 use crate::fault::fault_for;
 use crate::fields::event_of_record;
 use crate::refusal::ReadRefusal;
-use snap_core::{Event, EventRefusal, History, Limit};
+use snap_core::{AnyWriters, Event, EventRefusal, History, Limit};
 use snap_text::{Known, TextFault};
 use std::alloc::Global;
 
@@ -25,7 +25,7 @@ pub fn row_limit(limit: Limit) -> u32
 pub fn take_fields(
     alloc: Global,
     known: &mut Known,
-    history: &mut History,
+    history: &mut History<AnyWriters>,
     place: u32,
     fields: (&[u8], &[u8], &[u8], &[u8]),
 ) -> Result<(), ReadRefusal>
@@ -46,7 +46,11 @@ pub fn take_fields(
 
 /// Adds the event of a record to a history. The refusal is the record's fault, or want of memory.
 #[inline(always)]
-pub fn take_event(history: &mut History, place: u32, event: Event) -> Result<(), ReadRefusal>
+pub fn take_event(
+    history: &mut History<AnyWriters>,
+    place: u32,
+    event: Event,
+) -> Result<(), ReadRefusal>
     ensures takes { (r : Fields) → row_event r ≡ Ok event → TakesRow history.old.limit place history.old.events history.new.events r result }
     ensures limit { history.new.limit ≡ history.old.limit }
 {
@@ -57,7 +61,11 @@ pub fn take_event(history: &mut History, place: u32, event: Event) -> Result<(),
 }
 
 /// Adds an event to a history. The refusal is the event's fault, with this place, or want of memory.
-pub(crate) fn push_event(history: &mut History, place: u32, event: Event) -> Result<(), ReadRefusal>
+pub(crate) fn push_event(
+    history: &mut History<AnyWriters>,
+    place: u32,
+    event: Event,
+) -> Result<(), ReadRefusal>
     ensures takes { TakesEvent history.old.limit place history.old.events history.new.events event result }
     ensures limit { history.new.limit ≡ history.old.limit }
 {

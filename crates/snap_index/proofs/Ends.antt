@@ -6,11 +6,10 @@ use Rattle.std.specs.Option.{option_map, option_and_then}
 use Rattle.snap_core.specs.declared.entry.Entry.{Entry}
 use Rattle.snap_core.specs.declared.event.Event.{Event}
 use Rattle.snap_core.specs.declared.event.Event.TheVariants.{BeginUpdate, BeginView, EndUpdate, EndView}
-use Rattle.snap_core.specs.Events.{IsHistory}
-use Rattle.snap_core.specs.Calls.{Operation, Updates, Views, calls_of, is_view, is_answer, answer_at, entries_of}
-use Rattle.snap_core.specs.Calls.{Call as SpecCall}
+use Rattle.snap_core.specs.Ordered.{IsOrdered}
+use Rattle.snap_core.specs.Calls.{Operation, Updates, Views, calls_of, is_view, is_answer, answer_at, entries_of, Call as SpecCall}
 use Rattle.snap_core.proofs.Lists.{Contains-from_In}
-use Rattle.snap_core.proofs.Histories.{IsEndOf, call_end, answered_part}
+use Rattle.snap_core.proofs.Ends.{IsEndOf, call_end, answered_part}
 use Rattle.snap_index.specs.declared.call.Call.{Call}
 use Rattle.snap_index.specs.IndexedCalls.{as_indexed, answered_by, answer_of}
 use Rattle.snap_index.specs.inside.Tables.{answered_at}
@@ -37,12 +36,12 @@ not_ended es c i e = go c.operation refl
     go (Views (Some s)) w = absurd (let x = answered_part es c (record { there = i; completed = ap is_answer w }) in let g : None ≡ Some x.place = sym e ∙ x.ends in cc)
 
 -- what the event at the end of a call answers
-pub ended_answer : (es : List Event) (c : SpecCall) (x : Call) → IsHistory es → Contains (calls_of es) c → x ≡ as_indexed c → answered_at es x.ended ≡ answer_of c
+pub ended_answer : (es : List Event) (c : SpecCall) (x : Call) → IsOrdered es → Contains (calls_of es) c → x ≡ as_indexed c → answered_at es x.ended ≡ answer_of c
 ended_answer es c x h i is = ap (λ (z : Call). answered_at es z.ended) is ∙ go c.ended refl
   where
     go : (e : Option ℕ) → c.ended ≡ e → answered_at es e ≡ answer_of c
     go (Some end) e =
-        let y = call_end es h c end i e in
+        let y = call_end es h.well_formed c end i e in
         ap (option_and_then answer_at) y.there ∙ sym (answer_of_end c.operation y.event y.ends)
     go None e = sym (not_ended es c i e)
 
@@ -59,7 +58,7 @@ call_there : (es : List Event) (c : ℕ) (r : SpecCall) → slice_get (calls_of 
 call_there es c r h = Contains-from_In (calls_of es) r (In-slice_get (calls_of es) c r h)
 
 -- the answer of the call at a number, by what the index says of it
-pub call_answer : (es : List Event) → IsHistory es → (c : ℕ) (x : Call) → option_map as_indexed (slice_get (calls_of es) c) ≡ Some x → answered_at es x.ended ≡ option_and_then answer_of (slice_get (calls_of es) c)
+pub call_answer : (es : List Event) → IsOrdered es → (c : ℕ) (x : Call) → option_map as_indexed (slice_get (calls_of es) c) ≡ Some x → answered_at es x.ended ≡ option_and_then answer_of (slice_get (calls_of es) c)
 call_answer es h c x e =
     let m = mapped_some as_indexed (slice_get (calls_of es) c) x e in
     ended_answer es m.from x h (call_there es c m.from m.is) (sym m.to) ∙ sym (ap (option_and_then answer_of) m.is)

@@ -10,11 +10,13 @@ use Rattle.snap_core.specs.declared.entry.Entry.{Entry}
 use Rattle.snap_core.specs.declared.event.Event.{Event}
 use Rattle.snap_core.specs.declared.event.Event.TheVariants.{BeginUpdate, BeginView, EndUpdate, EndView}
 use Rattle.snap_core.specs.Entries.{AreEntries}
-use Rattle.snap_core.specs.Events.{IsHistory, IsBoundedHistory, EventFits}
+use Rattle.snap_core.specs.Ordered.{IsOrdered}
+use Rattle.snap_core.specs.Bounded.{IsBoundedOrdered}
+use Rattle.snap_core.specs.Events.{EventFits}
 use Rattle.snap_core.specs.Calls.{Call, Operation, Updates, Views, calls_of, views_of, nobody, call_numbered, is_view, is_answer, is_update_numbered, writes_number, entries_of}
 use Rattle.snap_core.specs.Regular.{IsUpdateOf}
 use Rattle.snap_core.proofs.Lists.{In, Contains-from_In, In-get_or, In-from_filter}
-use Rattle.snap_core.proofs.Histories.{IsEndOf, call_end, answered_part}
+use Rattle.snap_core.proofs.Ends.{IsEndOf, call_end, answered_part}
 use Rattle.snap_index.specs.IndexedCalls.{as_indexed, answer_of}
 use Rattle.snap_index.specs.Updates.{is_update_of, updates_of}
 use Rattle.snap_index.proofs.IndexedCalls.{at_own_number}
@@ -70,13 +72,13 @@ view_fits (Views (Some s)) (BeginView p) t i f = absurd i
 view_fits (Views (Some s)) (EndUpdate p) t i f = absurd i
 view_fits (Views (Some s)) (EndView p q) t i f = let same : s ≡ q = cc in subst AreEntries (sym same) f.1
 
-pub view_entries : (es : List Event) → IsBoundedHistory es → (i : ℕ) (r : Call) → slice_get (views_of (calls_of es)) i ≡ Some r → AreEntries (entries_of r.operation)
+pub view_entries : (es : List Event) → IsBoundedOrdered es → (i : ℕ) (r : Call) → slice_get (views_of (calls_of es)) i ≡ Some r → AreEntries (entries_of r.operation)
 unfolding views_of is_view
 view_entries es h i r is =
     let v = In-from_filter is_view (calls_of es) r (In-slice_get (views_of (calls_of es)) i r is) in
     let there = Contains-from_In (calls_of es) r v.0 in
     let e = answered_part es r (record { there = there; completed = v.1 }) in
-    let x = call_end es h.history r e.place there e.ends in
+    let x = call_end es h.history.well_formed r e.place there e.ends in
     let fits = All-contains EventFits es x.event h.fit (Contains-from_In es x.event (In-slice_get es e.place x.event x.there)) in
     view_fits r.operation x.event v.1 x.ends fits
 
@@ -116,14 +118,14 @@ update_found es k n c h =
         }
     go i (Views a) w t = absurd (let g : false ≡ true = sym (ap (λ z. writes_number z k n) w) ∙ t in cc)
 
-pub update_beyond : (es : List Event) → IsHistory es → (k n : ℕ) → count_by (is_update_of k) (calls_of es) < n → find (is_update_numbered k n) (calls_of es) ≡ None
+pub update_beyond : (es : List Event) → IsOrdered es → (k n : ℕ) → count_by (is_update_of k) (calls_of es) < n → find (is_update_numbered k n) (calls_of es) ≡ None
 update_beyond es h k n l =
     nth_update es h k (n - 1) n (omega arith) ∙ slice_get_past (updates_of k (calls_of es)) (n - 1) (omega (arith, update_count_is k (calls_of es)))
 
-pub no_update_0 : (es : List Event) → IsHistory es → (k : ℕ) → find (is_update_numbered k 0) (calls_of es) ≡ None
+pub no_update_0 : (es : List Event) → IsOrdered es → (k : ℕ) → find (is_update_numbered k 0) (calls_of es) ≡ None
 no_update_0 es h k = no_update_zero es h k 0 refl
 
-pub update_bounds : (es : List Event) → IsHistory es → (k n : ℕ) (c : Call) → find (is_update_numbered k n) (calls_of es) ≡ Some c → (0 < n) × (n ≤ count_by (is_update_of k) (calls_of es))
+pub update_bounds : (es : List Event) → IsOrdered es → (k n : ℕ) (c : Call) → find (is_update_numbered k n) (calls_of es) ≡ Some c → (0 < n) × (n ≤ count_by (is_update_of k) (calls_of es))
 update_bounds es h k n c e = (positive, few)
   where
     positive : 0 < n

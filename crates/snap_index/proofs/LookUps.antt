@@ -7,9 +7,10 @@ use Rattle.std.proofs.lemmas.List.{length-map}
 use Rattle.std.proofs.lemmas.List.Sums.{count_by-le-length}
 use Rattle.std.proofs.lemmas.Option.{slice_get-map}
 use Rattle.snap_core.specs.declared.event.Event.{Event}
-use Rattle.snap_core.specs.Events.{IsHistory, IsBoundedHistory, event_cap}
-use Rattle.snap_core.specs.Calls.{calls_of, views_of, is_update_numbered}
-use Rattle.snap_core.specs.Calls.{Call as SpecCall}
+use Rattle.snap_core.specs.Ordered.{IsOrdered}
+use Rattle.snap_core.specs.Bounded.{IsBoundedOrdered}
+use Rattle.snap_core.specs.Events.{event_cap}
+use Rattle.snap_core.specs.Calls.{calls_of, views_of, is_update_numbered, Call as SpecCall}
 use Rattle.snap_index.specs.declared.call.Call.{Call}
 use Rattle.snap_index.specs.declared.call.Write.{Write}
 use Rattle.snap_index.specs.declared.index.CompletedView.{CompletedView}
@@ -38,14 +39,14 @@ kept_at f g calls items views i r o e v s h is =
 pub row_is : (k : ℕ) (calls : List SpecCall) → length (map write_of (updates_of k calls)) ≡ count_by (is_update_of k) calls
 row_is k calls = length-map (updates_of k calls) write_of ∙ update_count_is k calls
 
-pub row_few : (es : List Event) → IsBoundedHistory es → (k : ℕ) → length (map write_of (updates_of k (calls_of es))) ≤ event_cap
+pub row_few : (es : List Event) → IsBoundedOrdered es → (k : ℕ) → length (map write_of (updates_of k (calls_of es))) ≤ event_cap
 row_few es h k = omega (arith, row_is k (calls_of es), count_by-le-length (is_update_of k) (calls_of es), call_count_within es, h.short)
 
 -- what the n-th of the updates of a component writes
-pub update_in_row : (es : List Event) → IsHistory es → (k n place : ℕ) → n ≡ suc place → slice_get (map write_of (updates_of k (calls_of es))) place ≡ option_map write_of (find (is_update_numbered k n) (calls_of es))
+pub update_in_row : (es : List Event) → IsOrdered es → (k n place : ℕ) → n ≡ suc place → slice_get (map write_of (updates_of k (calls_of es))) place ≡ option_map write_of (find (is_update_numbered k n) (calls_of es))
 update_in_row es h k n place e = slice_get-map write_of (updates_of k (calls_of es)) place ∙ ap (option_map write_of) (sym (nth_update es h k place n e))
 
-pub no_zero : (es : List Event) → IsHistory es → (k n : ℕ) → n ≡ 0 → None ≡ option_map write_of (find (is_update_numbered k n) (calls_of es))
+pub no_zero : (es : List Event) → IsOrdered es → (k n : ℕ) → n ≡ 0 → None ≡ option_map write_of (find (is_update_numbered k n) (calls_of es))
 no_zero es h k n e = sym (ap (option_map write_of) (no_update_zero es h k n e))
 
 -- the call at the number of what was found

@@ -8,9 +8,9 @@ use Rattle.std.proofs.lemmas.List.Elements.{filter-append}
 use Rattle.std.proofs.lemmas.List.Sums.{sum_by-append, count_by-le-length}
 use Rattle.snap_core.specs.declared.entry.Entry.{Entry}
 use Rattle.snap_core.specs.declared.event.Event.{Event}
-use Rattle.snap_core.specs.Events.{IsHistory, IsBoundedHistory}
-use Rattle.snap_core.specs.Calls.{Operation, Updates, Views, calls_of, views_of, nobody, call_numbered, is_view}
-use Rattle.snap_core.specs.Calls.{Call as SpecCall}
+use Rattle.snap_core.specs.Ordered.{IsOrdered}
+use Rattle.snap_core.specs.Bounded.{IsBoundedOrdered}
+use Rattle.snap_core.specs.Calls.{Operation, Updates, Views, calls_of, views_of, nobody, call_numbered, is_view, Call as SpecCall}
 use Rattle.snap_core.specs.Orders.{is_completed}
 use Rattle.snap_core.proofs.Lists.{count-cons}
 use Rattle.snap_core.proofs.Histories.{numbered_calls, byte_components}
@@ -82,7 +82,7 @@ write_at r c x n e =
     value_at (Updates d) = refl
     value_at (Views a) = refl
 
-pub noted : (es : List Event) → IsHistory es → (c : ℕ) → c < length (calls_of es) → (x : Call) → x ≡ as_indexed (call_numbered (calls_of es) c) →
+pub noted : (es : List Event) → IsOrdered es → (c : ℕ) → c < length (calls_of es) → (x : Call) → x ≡ as_indexed (call_numbered (calls_of es) c) →
     (views new_views : List CompletedView) (updates new_updates : List (List Write)) (pending new_pending : ℕ) →
     Shows (call_numbered (calls_of es) c) views new_views → Puts x c updates new_updates →
     new_pending ≡ pending + cond (is_some x.ended) 0 1 →
@@ -176,7 +176,7 @@ updates_of_view x c updates new_updates h u = record {
 }
 
 -- an update's component is a byte
-pub component_fits : (es : List Event) → IsBoundedHistory es → (c : ℕ) → c < length (calls_of es) → (x : Call) → x ≡ as_indexed (call_numbered (calls_of es) c) → (e : Entry) → x.op ≡ Update e → e.component < 256
+pub component_fits : (es : List Event) → IsBoundedOrdered es → (c : ℕ) → c < length (calls_of es) → (x : Call) → x ≡ as_indexed (call_numbered (calls_of es) c) → (e : Entry) → x.op ≡ Update e → e.component < 256
 component_fits es h c l x is e op =
     byte_components es (bytes_of_events es h.fit) (call_numbered (calls_of es) c) e
     (record { there = numbered_there (calls_of es) c l; writes = update_from _ e (sym (ap (λ (z : Call). z.op) is) ∙ op) })

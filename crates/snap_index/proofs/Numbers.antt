@@ -6,7 +6,8 @@ use Rattle.std.proofs.lemmas.Bool.{eq-eqb, ne_eqb, eqb-true}
 use Rattle.std.proofs.lemmas.List.Sums.{sum_by-append, length-filter}
 use Rattle.snap_core.specs.declared.event.Event.{Event}
 use Rattle.snap_core.specs.declared.event.Event.TheVariants.{BeginUpdate, BeginView, EndUpdate, EndView}
-use Rattle.snap_core.specs.Events.{IsHistory, IsNumbered, begins_update_of}
+use Rattle.snap_core.specs.Ordered.{IsOrdered}
+use Rattle.snap_core.specs.Events.{IsNumbered, begins_update_of}
 use Rattle.snap_core.specs.Calls.{Call, Updates, Views, next_place, next_answer, calls_from, calls_of, is_update_numbered}
 use Rattle.snap_core.proofs.Lists.{count-cons}
 use Rattle.snap_index.specs.Updates.{is_update_of, updates_of}
@@ -81,7 +82,7 @@ numbered_from k n place before (EndView p s ∷ es) h =
     same_start k (count_by (begins_update_of k) before) _ (calls_from n (suc place) es) (omega (arith, after)) (numbered_from k n (suc place) (before ++ EndView p s ∷ []) es (grown before (EndView p s) es h))
 
 -- update n of component k is the n-th of its updates
-pub nth_update : (es : List Event) → IsHistory es → (k i n : ℕ) → n ≡ suc i → find (is_update_numbered k n) (calls_of es) ≡ slice_get (updates_of k (calls_of es)) i
+pub nth_update : (es : List Event) → IsOrdered es → (k i n : ℕ) → n ≡ suc i → find (is_update_numbered k n) (calls_of es) ≡ slice_get (updates_of k (calls_of es)) i
 unfolding calls_of updates_of
 nth_update es h k i n e =
     let m : n ≡ suc (0 + i) = omega arith in
@@ -104,7 +105,7 @@ zero_from k n place before (BeginView p ∷ es) h = zero_from k (suc n) (suc pla
 zero_from k n place before (EndUpdate p ∷ es) h = zero_from k n (suc place) (before ++ EndUpdate p ∷ []) es (grown before (EndUpdate p) es h)
 zero_from k n place before (EndView p s ∷ es) h = zero_from k n (suc place) (before ++ EndView p s ∷ []) es (grown before (EndView p s) es h)
 
-pub no_update_zero : (es : List Event) → IsHistory es → (k n : ℕ) → n ≡ 0 → find (is_update_numbered k n) (calls_of es) ≡ None
+pub no_update_zero : (es : List Event) → IsOrdered es → (k n : ℕ) → n ≡ 0 → find (is_update_numbered k n) (calls_of es) ≡ None
 unfolding calls_of
 no_update_zero es h k n e = ap (λ z. find (is_update_numbered k z) (calls_from 0 0 es)) e ∙ zero_from k 0 0 [] es h.numbered
 

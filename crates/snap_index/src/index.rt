@@ -3,7 +3,7 @@ ghost use Rattle.std.specs.Prelude.{◌≡◌, ◌<◌, ◌≤◌, ◌+◌, ℕ,
 ghost use Rattle.std.specs.Option.{option_and_then, option_copied, option_map};
 ghost use Rattle.snap_core.specs.Calls.{calls_of, views_of, is_update_numbered, call_numbered, precedes as spec_precedes};
 ghost use Rattle.snap_core.specs.Entries.{component_count};
-ghost use Rattle.snap_core.specs.Events.{IsBoundedHistory};
+ghost use Rattle.snap_core.specs.Bounded.{IsBoundedBy, IsBoundedOrdered};
 ghost use Rattle.snap_index.specs.IndexedCalls.{as_indexed, number_of, write_of, entries_shown, answer_of};
 ghost use Rattle.snap_index.specs.Updates.{is_update_of, updates_of, is_pending};
 ghost use Rattle.snap_index.specs.inside.Tables.{answered_at};
@@ -11,7 +11,7 @@ ghost use Rattle.snap_index.specs.inside.Tables.{answered_at};
 use crate::call::{Call, CallOp, Write};
 use crate::listing::list_calls;
 use crate::table::UpdateTable;
-use snap_core::{Event, History, View};
+use snap_core::{Event, History, OneWriter, Ownership, View};
 use std::alloc::{AllocError, Global};
 use std::marker::Model;
 
@@ -24,15 +24,15 @@ struct CompletedView<'h> {
 
 /// The calls of a history, with look-ups by number. A call's number is the number of begins before its own.
 #[derive(Drop)]
-pub struct Index<'h> {
-    history: &'h History,
+pub struct Index<'h, O: Ownership = OneWriter> {
+    history: &'h History<O>,
     calls: Vec<Call>,
     views: Vec<CompletedView<'h>>,
     updates: UpdateTable<Write>,
     pending: u32,
 }
 
-impl<'h> Model for Index<'h> {
+impl<'h, O: Ownership> Model for Index<'h, O> {
     ghost use Rattle.std.specs.Prelude.{List};
     ghost use Rattle.snap_core.specs.declared.event.Event.{Event};
 
@@ -55,9 +55,9 @@ fn answered(events: &[Event], ended: Option<u32>) -> Option<&View>
     }
 }
 
-impl<'h> Index<'h> {
+impl<'h, O: Ownership> Index<'h, O> {
     /// The index of a history, which it borrows, by one pass over its events. The error is lack of memory.
-    pub fn build(alloc: Global, history: &'h History) -> Result<Index<'h>, AllocError>
+    pub fn build(alloc: Global, history: &'h History<O>) -> Result<Index<'h, O>, AllocError>
         ensures { IfOk result (λ index. index ≡ history.now.events) }
     {
         let events = history.events();
@@ -99,7 +99,8 @@ impl<'h> Index<'h> {
     /// The events of the history, in order.
     pub fn events(&self) -> &[Event]
         ensures events { result.now ≡ self.now }
-        ensures kept { IsBoundedHistory self.now }
+        ensures kept { IsBoundedBy O.writers self.now }
+        ensures ordered { IsBoundedOrdered self.now }
     {
         self.history.events()
     }
@@ -107,7 +108,8 @@ impl<'h> Index<'h> {
     /// The number of events of the history.
     pub fn event_count(&self) -> u32
         ensures count { result ≡ length self.now }
-        ensures kept { IsBoundedHistory self.now }
+        ensures kept { IsBoundedBy O.writers self.now }
+        ensures ordered { IsBoundedOrdered self.now }
     {
         self.events().len() as u32
     }
@@ -188,8 +190,11 @@ impl<'h> Index<'h> {
     /// The values, call numbers, begins and ends of the updates of component `k`, in their order. Update `n` is the `n`-th.
     pub fn updates(&self, k: u8) -> &[Write]
         ensures updates { result.now ≡ map write_of (updates_of k (calls_of self.now)) }
-        ensures kept { IsBoundedHistory self.now }
+        ensures kept { IsBoundedBy O.writers self.now }
+        ensures ordered { IsBoundedOrdered self.now }
     {
+        // this call shows what the events are
+        let _events = self.events();
         self.updates.of(k)
     }
 

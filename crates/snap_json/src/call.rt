@@ -10,7 +10,7 @@ ghost use Rattle.snap_index.specs.IndexedCalls.{indexed_op};
 ghost use Rattle.snap_json.specs.Calls.{call_json, end_json, entries_in, entry_items, entry_json, op_word, record_json, update_json};
 
 use crate::line::Line;
-use snap_core::Entry;
+use snap_core::{Entry, Ownership};
 use snap_index::{Call, CallOp, Index};
 use std::alloc::AllocError;
 
@@ -35,7 +35,11 @@ fn put_entries(line: &mut Line, entries: &[Entry]) -> Result<(), AllocError>
 }
 
 // Adds the entries that a completed view shows. Of other calls it adds none.
-fn put_shown(line: &mut Line, index: &Index<'_>, number: u32) -> Result<(), AllocError>
+fn put_shown<O: Ownership>(
+    line: &mut Line,
+    index: &Index<'_, O>,
+    number: u32,
+) -> Result<(), AllocError>
     requires { number < length (calls_of index.now) }
     ensures { OnOk result (line.new.writer.tokens ≡ line.old.writer.tokens
         ++ flat_map (λ entry. json_tokens (entry_json entry)) (entries_of (call_numbered (calls_of index.now) number).operation)) }
@@ -47,9 +51,9 @@ fn put_shown(line: &mut Line, index: &Index<'_>, number: u32) -> Result<(), Allo
 }
 
 // Adds the entries that an update writes, or that a view shows.
-fn put_operation(
+fn put_operation<O: Ownership>(
     line: &mut Line,
-    index: &Index<'_>,
+    index: &Index<'_, O>,
     number: u32,
     op: CallOp,
 ) -> Result<(), AllocError>
@@ -65,7 +69,12 @@ fn put_operation(
 }
 
 // Adds the array of the entries that the call writes or shows.
-fn put_array(line: &mut Line, index: &Index<'_>, number: u32, op: CallOp) -> Result<(), AllocError>
+fn put_array<O: Ownership>(
+    line: &mut Line,
+    index: &Index<'_, O>,
+    number: u32,
+    op: CallOp,
+) -> Result<(), AllocError>
     requires below { number < length (calls_of index.now) }
     requires same { op ≡ indexed_op (call_numbered (calls_of index.now) number).operation }
     ensures { OnOk result (line.new.writer.tokens ≡ line.old.writer.tokens
@@ -104,9 +113,9 @@ fn put_records(line: &mut Line, records: &[u32], call: &Call) -> Result<(), Allo
 }
 
 /// Adds the object of the call of a number.
-pub(crate) fn put_call(
+pub(crate) fn put_call<O: Ownership>(
     line: &mut Line,
-    index: &Index<'_>,
+    index: &Index<'_, O>,
     records: &[u32],
     number: u32,
 ) -> Result<(), AllocError>
@@ -130,9 +139,9 @@ pub(crate) fn put_call(
 }
 
 /// Adds the object of an update, or null if no update has that component and number.
-pub(crate) fn put_update(
+pub(crate) fn put_update<O: Ownership>(
     line: &mut Line,
-    index: &Index<'_>,
+    index: &Index<'_, O>,
     records: &[u32],
     component: u8,
     number: u32,

@@ -11,14 +11,15 @@ ghost use Rattle.snap_json.specs.Differs.{difference_items, difference_json, dif
 use crate::call::put_update;
 use crate::line::Line;
 use snap_conditions::ReadFault;
+use snap_core::Ownership;
 use snap_index::Index;
 use snap_witness::{read_updates, view_numbered};
 use std::alloc::AllocError;
 
 // Adds the object of the component of an update, with the numbers that both views show of it, and with the update.
-fn put_difference(
+fn put_difference<O: Ownership>(
     line: &mut Line,
-    index: &Index<'_>,
+    index: &Index<'_, O>,
     records: &[u32],
     fault: &ReadFault,
     update: (u8, u32),
@@ -40,9 +41,9 @@ fn put_difference(
 }
 
 // Adds an object for each update.
-fn put_each(
+fn put_each<O: Ownership>(
     line: &mut Line,
-    index: &Index<'_>,
+    index: &Index<'_, O>,
     records: &[u32],
     fault: &ReadFault,
     updates: &[(u8, u32)],
@@ -59,9 +60,9 @@ fn put_each(
 }
 
 // Adds the array of an object for each update.
-fn put_array(
+fn put_array<O: Ownership>(
     line: &mut Line,
-    index: &Index<'_>,
+    index: &Index<'_, O>,
     records: &[u32],
     fault: &ReadFault,
     updates: &[(u8, u32)],
@@ -77,9 +78,9 @@ fn put_array(
 }
 
 /// Adds where the views of a read fault differ.
-pub(crate) fn put_differs(
+pub(crate) fn put_differs<O: Ownership>(
     line: &mut Line,
-    index: &Index<'_>,
+    index: &Index<'_, O>,
     records: &[u32],
     fault: &ReadFault,
 ) -> Result<(), AllocError>

@@ -18,14 +18,15 @@ use crate::line::Line;
 use snap_conditions::{
     Fault, IntegrityFault, Kind, ProximityFault, ReadFault, Side, Tally, WriteFault,
 };
+use snap_core::Ownership;
 use snap_index::Index;
 use snap_witness::{first_fault_of, side_number};
 use std::alloc::AllocError;
 
 // Begins the object of a fault, with the number of faults of its kind and its view.
-fn begin_fault(
+fn begin_fault<O: Ownership>(
     line: &mut Line,
-    index: &Index<'_>,
+    index: &Index<'_, O>,
     records: &[u32],
     count: u64,
     view: u32,
@@ -41,9 +42,9 @@ fn begin_fault(
     put_call(line, index, records, view)
 }
 
-fn put_integrity(
+fn put_integrity<O: Ownership>(
     line: &mut Line,
-    index: &Index<'_>,
+    index: &Index<'_, O>,
     records: &[u32],
     count: u64,
     fault: &IntegrityFault,
@@ -75,9 +76,9 @@ fn word_of(side: Side) -> &'static str
     }
 }
 
-fn put_proximity(
+fn put_proximity<O: Ownership>(
     line: &mut Line,
-    index: &Index<'_>,
+    index: &Index<'_, O>,
     records: &[u32],
     count: u64,
     fault: &ProximityFault,
@@ -96,9 +97,9 @@ fn put_proximity(
     line.end_object()
 }
 
-fn put_read(
+fn put_read<O: Ownership>(
     line: &mut Line,
-    index: &Index<'_>,
+    index: &Index<'_, O>,
     records: &[u32],
     count: u64,
     fault: &ReadFault,
@@ -117,9 +118,9 @@ fn put_read(
 }
 
 // Adds the object of a component and a number, with the update that has both.
-fn put_named(
+fn put_named<O: Ownership>(
     line: &mut Line,
-    index: &Index<'_>,
+    index: &Index<'_, O>,
     records: &[u32],
     component: u8,
     number: u32,
@@ -135,9 +136,9 @@ fn put_named(
     line.end_object()
 }
 
-fn put_write(
+fn put_write<O: Ownership>(
     line: &mut Line,
-    index: &Index<'_>,
+    index: &Index<'_, O>,
     records: &[u32],
     count: u64,
     fault: &WriteFault,
@@ -167,9 +168,9 @@ fn put_write(
 }
 
 // Adds the object of a fault, which begins with the number of faults of its kind.
-fn put_fault(
+fn put_fault<O: Ownership>(
     line: &mut Line,
-    index: &Index<'_>,
+    index: &Index<'_, O>,
     records: &[u32],
     count: u64,
     fault: &Fault,
@@ -187,9 +188,9 @@ fn put_fault(
 }
 
 // Adds the first fault of a kind, or null if there is none.
-fn put_first(
+fn put_first<O: Ownership>(
     line: &mut Line,
-    index: &Index<'_>,
+    index: &Index<'_, O>,
     records: &[u32],
     tally: &Tally,
     kind: Kind,
@@ -205,9 +206,9 @@ fn put_first(
 }
 
 // Adds the word of a kind, and its first fault.
-fn put_kind(
+fn put_kind<O: Ownership>(
     line: &mut Line,
-    index: &Index<'_>,
+    index: &Index<'_, O>,
     records: &[u32],
     tally: &Tally,
     kind: Kind,
@@ -222,9 +223,9 @@ fn put_kind(
 }
 
 /// Adds the first fault of each kind, each after the word of its kind.
-pub(crate) fn put_faults(
+pub(crate) fn put_faults<O: Ownership>(
     line: &mut Line,
-    index: &Index<'_>,
+    index: &Index<'_, O>,
     records: &[u32],
     tally: &Tally,
 ) -> Result<(), AllocError>

@@ -13,6 +13,7 @@ ghost use Rattle.snap_json.specs.Values.{IsLineOf, field_tokens, number_json, ob
 use crate::faults::put_faults;
 use crate::line::Line;
 use snap_conditions::{Tally, is_atomic, is_monotone, is_regular};
+use snap_core::Ownership;
 use snap_index::Index;
 use snap_text::TextFault;
 use std::alloc::{AllocError, Global};
@@ -28,7 +29,7 @@ pub(crate) fn begin_text(alloc: Global, name: &str, status: u8) -> Result<Line, 
     Ok(line)
 }
 
-fn put_counts(line: &mut Line, index: &Index<'_>) -> Result<(), AllocError>
+fn put_counts<O: Ownership>(line: &mut Line, index: &Index<'_, O>) -> Result<(), AllocError>
     ensures { OnOk result (line.new.writer.tokens ≡ line.old.writer.tokens ++ field_tokens (count_fields index.now)) }
 {
     line.number("events", u64::from(index.event_count()))?;
@@ -51,11 +52,11 @@ fn put_verdicts(line: &mut Line, tally: &Tally) -> Result<(), AllocError>
 /// number of faults of its kind, what it names, and its calls. A kind without faults has null.
 ///
 /// `tally` is that of all completed views, and `records` has the number of the record of each event.
-pub fn history_line(
+pub fn history_line<O: Ownership>(
     alloc: Global,
     name: &str,
     status: u8,
-    index: &Index<'_>,
+    index: &Index<'_, O>,
     tally: &Tally,
     records: &[u32],
 ) -> Result<Vec<u8>, AllocError>

@@ -7,7 +7,7 @@ use Rattle.std.proofs.lemmas.Option.{slice_get_within}
 use Rattle.snap_core.specs.declared.entry.Entry.{Entry}
 use Rattle.snap_core.specs.declared.event.Event.{Event}
 use Rattle.snap_core.specs.Entries.{component_count}
-use Rattle.snap_core.specs.Events.{IsBoundedHistory}
+use Rattle.snap_core.specs.Bounded.{IsBoundedOrdered}
 use Rattle.snap_core.specs.Calls.{Call, Operation, Updates, Views, calls_of, call_numbered}
 use Rattle.snap_core.specs.Orders.{written_by}
 use Rattle.snap_core.proofs.Fits.{bytes_of_events}
@@ -19,7 +19,7 @@ use Rattle.snap_index.specs.declared.call.CallOp.TheVariants.{Update}
 use Rattle.snap_index.proofs.IndexedCalls.{numbered_there, mapped_some, update_from}
 use Rattle.snap_order.proofs.State.{AreBytes}
 
-pub bytes_of : (es : List Event) → IsBoundedHistory es → AreBytes (calls_of es)
+pub bytes_of : (es : List Event) → IsBoundedOrdered es → AreBytes (calls_of es)
 bytes_of es k = let b = bytes_of_events es k.fit in record { updates = byte_components es b; views = byte_views es b }
 
 -- what was found stands within the list

@@ -6,7 +6,8 @@ use Rattle.std.specs.List.{list_any}
 use Rattle.snap_core.specs.declared.entry.Entry.{Entry}
 use Rattle.snap_core.specs.declared.event.Event.{Event}
 use Rattle.snap_core.specs.Calls.{Call, Views, calls_of, views_of, shown_number}
-use Rattle.snap_core.specs.Events.{IsBoundedHistory, event_cap}
+use Rattle.snap_core.specs.Bounded.{IsBoundedOrdered}
+use Rattle.snap_core.specs.Events.{event_cap}
 use Rattle.snap_views.proofs.Sizes.{few_views}
 use Rattle.snap_index.specs.IndexedCalls.{indexed_op, answered_by, answer_of}
 use Rattle.snap_index.specs.declared.call.CallOp.TheVariants.{Update, View}
@@ -15,7 +16,7 @@ use Rattle.snap_theory.specs.Levels.{update_level, view_level, rank_by, rank, st
 use Rattle.snap_theory.specs.Keys.{rank_of}
 use Rattle.snap_order.proofs.Places.{any_views}
 
-pub rank_fits : (es : List Event) (level : ℕ) → IsBoundedHistory es → level ≤ length (views_of (calls_of es)) → 2 * level + 1 ≤ 2 * event_cap + 1
+pub rank_fits : (es : List Event) (level : ℕ) → IsBoundedOrdered es → level ≤ length (views_of (calls_of es)) → 2 * level + 1 ≤ 2 * event_cap + 1
 rank_fits es level k l = omega (arith, l, few_views es k)
 
 pub word_fits : (n : ℕ) → n ≤ 2 * event_cap + 1 → Fits w32 n

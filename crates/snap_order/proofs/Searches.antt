@@ -11,7 +11,7 @@ use Rattle.std.proofs.lemmas.List.FromFn.{fill_by_all, get_or-range_with_len, le
 use Rattle.std.proofs.lemmas.List.Sorted.{All-permutation, sum_by-IsPermutation, length_permutation}
 use Rattle.snap_core.specs.declared.entry.Entry.{Entry}
 use Rattle.snap_core.specs.declared.event.Event.{Event}
-use Rattle.snap_core.specs.Events.{IsBoundedHistory}
+use Rattle.snap_core.specs.Bounded.{IsBoundedOrdered}
 use Rattle.snap_core.specs.Calls.{Call, Operation, Updates, Views, calls_of, call_numbered, views_of, entries_of, is_view, is_answer, shown_number, nobody}
 use Rattle.snap_index.specs.IndexedCalls.{answer_of, answered_by, number_of}
 use Rattle.snap_index.proofs.IndexedCalls.{mapped_some, numbered_there}
@@ -26,7 +26,7 @@ use Rattle.snap_views.specs.Seen.{view_in}
 use Rattle.snap_views.proofs.Chains.{sum_in, no_more_by_sum, view_is}
 use Rattle.snap_views.proofs.EntrySums.{sum_is}
 use Rattle.snap_theory.proofs.Exceeding.{exceeds_not}
-use Rattle.snap_theory.proofs.FaultLaws.{meets_from_none}
+use Rattle.snap_theory.proofs.FaultLaws.{ordered_meets}
 use Rattle.snap_theory.proofs.Components.{byte_views, fit_views}
 use Rattle.snap_theory.proofs.FaultLists.{from_views}
 use Rattle.snap_order.specs.inside.Chains.{IsSummedChain}
@@ -37,8 +37,8 @@ use Rattle.snap_order.proofs.Places.{count_views}
 use Rattle.snap_order.proofs.Sums.{below_by_sum}
 
 -- of two completed views of a history without a fault one shows no component above the other's
-pub comparable_without_fault : (es : List Event) → IsBoundedHistory es → HasNoFault (calls_of es) → AreComparable (calls_of es)
-comparable_without_fault es k n = chain (calls_of es) (meets_from_none es k.history (bytes_of_events es k.fit) n)
+pub comparable_without_fault : (es : List Event) → IsBoundedOrdered es → HasNoFault (calls_of es) → AreComparable (calls_of es)
+comparable_without_fault es k n = chain (calls_of es) (ordered_meets es k.history (bytes_of_events es k.fit) n)
 
 -- the places of all views, and no others
 range_within : (n : ℕ) → All (λ place. place < n) (range_with_len 0 n)
@@ -108,7 +108,7 @@ answered_entries (Views None) entries h = absurd (cc)
 answered_entries (Views (Some es)) entries h = cc
 
 -- and its sum
-pub sum_of_number : (es : List Event) → IsBoundedHistory es → (sums : List ℕ) → AreViewSums (calls_of es) sums → (place number : ℕ) (entries : List Entry) → number < length (calls_of es) →
+pub sum_of_number : (es : List Event) → IsBoundedOrdered es → (sums : List ℕ) → AreViewSums (calls_of es) sums → (place number : ℕ) (entries : List Entry) → number < length (calls_of es) →
     option_map number_of (slice_get (views_of (calls_of es)) place) ≡ Some number → answer_of (call_numbered (calls_of es) number) ≡ Some entries → get_or sums place 0 ≡ entry_sum entries
 sum_of_number es kept sums s place number entries l h a =
     let calls = calls_of es in
@@ -117,7 +117,7 @@ sum_of_number es kept sums s place number entries l h a =
     sum_in calls sums place 0 s v.0 ∙ ap shown_sum v.1 ∙ sum_is r (fit_views es kept.fit r (numbered_there calls number l)) ∙ ap entry_sum (answered_entries r.operation entries a)
 
 -- the views below one are those with a smaller sum
-pub view_level_is : (es : List Event) → IsBoundedHistory es → AreComparable (calls_of es) → (r : Call) (entries : List Entry) → Contains (calls_of es) r → r.operation ≡ Views (Some entries) →
+pub view_level_is : (es : List Event) → IsBoundedOrdered es → AreComparable (calls_of es) → (r : Call) (entries : List Entry) → Contains (calls_of es) r → r.operation ≡ Views (Some entries) →
     count_by (λ s. nat_lt (shown_sum s) (entry_sum entries)) (views_of (calls_of es)) ≡ view_level (calls_of es) r
 unfolding view_level is_view
 view_level_is es kept c r entries i w =

@@ -1,6 +1,6 @@
 //! The check of an order.
 ghost use Rattle.std.specs.Prelude.{◌≡◌, ◌<◌, ◌↔◌, length, IfOk, IsTrue};
-ghost use Rattle.snap_core.specs.Events.{IsHistory};
+ghost use Rattle.snap_core.specs.Ordered.{IsOrdered};
 ghost use Rattle.snap_core.specs.Calls.{calls_of, call_numbered, is_before};
 ghost use Rattle.snap_core.specs.Orders.{is_completed as spec_is_completed};
 ghost use Rattle.snap_theory.specs.Faults.{HasNoFault};
@@ -43,7 +43,7 @@ pub fn check_order(alloc: Global, index: &Index<'_>, order: &[u32]) -> Result<bo
 
 // Whether a call may come after calls that left these last entries, with `latest` as their latest begin.
 fn may_stand(index: &Index<'_>, number: u32, last: &LastEntries, latest: u32) -> bool
-    requires history { IsHistory index.now }
+    requires ordered { IsOrdered index.now }
     requires number { number < length (calls_of index.now) }
     ensures { IsTrue result ↔ MayStand (call_numbered (calls_of index.now) number) last.now latest }
 {

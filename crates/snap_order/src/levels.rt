@@ -13,7 +13,7 @@ ghost use Rattle.snap_order.specs.inside.Blocks.{AreBlocks, IsBlock, block_start
 
 use crate::near::partition_near;
 use rayon::prelude::*;
-use snap_core::{Entry, View};
+use snap_core::{Entry, Ownership, View};
 use snap_index::{CallOp, Index};
 use snap_views::{ViewChain, entries_sum};
 use std::alloc::{AllocError, Global};
@@ -22,15 +22,15 @@ use std::thread::Threads;
 
 /// The levels of the calls of an index whose history has no fault.
 #[derive(Drop)]
-pub(crate) struct Levels<'i, 'h> {
-    index: &'i Index<'h>,
+pub(crate) struct Levels<'i, 'h, O: Ownership> {
+    index: &'i Index<'h, O>,
     // the places of the completed views in a chain, in which each view shows no less than those before it
     chain: Vec<u32>,
     // the sum of the numbers that each completed view shows, by place
     sums: Vec<u64>,
 }
 
-impl<'i, 'h> Model for Levels<'i, 'h> {
+impl<'i, 'h, O: Ownership> Model for Levels<'i, 'h, O> {
     ghost use Rattle.std.specs.Prelude.{List};
     ghost use Rattle.snap_core.specs.declared.event.Event.{Event};
     ghost use Rattle.snap_order.specs.inside.Chains.{IsSummedChain};
@@ -56,7 +56,7 @@ fn start_of(blocks: u32, block: u32, calls: u32) -> u32
 }
 
 // The number that the completed view at a place shows of a component, 0 if it shows none.
-fn shown_at(index: &Index<'_>, place: u32, component: u8) -> u32
+fn shown_at<O: Ownership>(index: &Index<'_, O>, place: u32, component: u8) -> u32
     ensures { result ≡ shown_number (view_in (calls_of index.now) place) component }
 {
     match index.view(place) {
@@ -72,9 +72,9 @@ fn sum_at(sums: &[u64], place: u32) -> u64
     sums.get(place as usize).copied().unwrap_or(0)
 }
 
-impl<'i, 'h> Levels<'i, 'h> {
+impl<'i, 'h, O: Ownership> Levels<'i, 'h, O> {
     // The levels by a chain of the completed views.
-    pub(crate) fn of(index: &'i Index<'h>, chain: ViewChain) -> Levels<'i, 'h>
+    pub(crate) fn of(index: &'i Index<'h, O>, chain: ViewChain) -> Levels<'i, 'h, O>
         requires fault { HasNoFault (calls_of index.now) }
         requires chain { IsViewChain (calls_of index.now) chain }
         ensures { result ≡ index.now }
@@ -93,45 +93,6 @@ impl<'i, 'h> Levels<'i, 'h> {
         ensures { IfOk result (λ keys. keys.items ≡ printed_keys (calls_of self.now)) }
     {
         self.keys_between(alloc, 0, self.index.call_count())
-    }
-
-    // The keys of `keys`. At most `workers` workers share the calls: each has a block of them, in a thread of its own.
-    pub(crate) fn keys_shared<R: Threads + Sync>(
-        &self,
-        rt: &R,
-        alloc: Global,
-        workers: u32,
-    ) -> Result<Vec<(u32, u32)>, AllocError>
-        ensures { IfOk result (λ keys. keys.items ≡ printed_keys (calls_of self.now)) }
-    {
-        let blocks = workers.min(self.index.call_count() / CALLS_A_THREAD);
-        if blocks < 2 {
-            return self.keys(alloc);
-        }
-        let parts = self.parts(rt, alloc, blocks)?;
-        self.joined(alloc, blocks, parts)
-    }
-
-    // The keys of each of `blocks` blocks.
-    fn parts<R: Threads + Sync>(
-        &self,
-        rt: &R,
-        alloc: Global,
-        blocks: u32,
-    ) -> Result<Vec<Result<Vec<(u32, u32)>, AllocError>>, AllocError>
-        ensures count { IfOk result (λ parts. length parts.items ≡ blocks) }
-        ensures parts { IfOk result (λ parts. AreBlocks (calls_of self.now) blocks parts.items) }
-    {
-        (0..blocks)
-            .into_par_iter()
-            .map(
-                |block: u32| -> Result<Vec<(u32, u32)>, AllocError>
-                    requires { block < blocks }
-                    ensures { IsBlock (calls_of self.entry.now) blocks block result }
-                { self.keys_of_block(alloc, blocks, block) },
-            )
-            .with_min_len(1)
-            .collect(rt, alloc)
     }
 
     // The keys of one of `blocks` blocks.
@@ -287,5 +248,46 @@ impl<'i, 'h> Levels<'i, 'h> {
         partition_near(&self.chain, near as usize, |place| {
             sum_at(sums, *place) < sum
         }) as u32
+    }
+}
+
+impl<'i, 'h, O: Ownership + Sync> Levels<'i, 'h, O> {
+    // The keys of `keys`. At most `workers` workers share the calls: each has a block of them, in a thread of its own.
+    pub(crate) fn keys_shared<R: Threads + Sync>(
+        &self,
+        rt: &R,
+        alloc: Global,
+        workers: u32,
+    ) -> Result<Vec<(u32, u32)>, AllocError>
+        ensures { IfOk result (λ keys. keys.items ≡ printed_keys (calls_of self.now)) }
+    {
+        let blocks = workers.min(self.index.call_count() / CALLS_A_THREAD);
+        if blocks < 2 {
+            return self.keys(alloc);
+        }
+        let parts = self.parts(rt, alloc, blocks)?;
+        self.joined(alloc, blocks, parts)
+    }
+
+    // The keys of each of `blocks` blocks.
+    fn parts<R: Threads + Sync>(
+        &self,
+        rt: &R,
+        alloc: Global,
+        blocks: u32,
+    ) -> Result<Vec<Result<Vec<(u32, u32)>, AllocError>>, AllocError>
+        ensures count { IfOk result (λ parts. length parts.items ≡ blocks) }
+        ensures parts { IfOk result (λ parts. AreBlocks (calls_of self.now) blocks parts.items) }
+    {
+        (0..blocks)
+            .into_par_iter()
+            .map(
+                |block: u32| -> Result<Vec<(u32, u32)>, AllocError>
+                    requires { block < blocks }
+                    ensures { IsBlock (calls_of self.entry.now) blocks block result }
+                { self.keys_of_block(alloc, blocks, block) },
+            )
+            .with_min_len(1)
+            .collect(rt, alloc)
     }
 }

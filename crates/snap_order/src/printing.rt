@@ -11,7 +11,7 @@ ghost use Rattle.snap_order.specs.Numbers.{IsLegalList};
 
 use crate::levels::Levels;
 use rayon::current_num_threads;
-use snap_core::EVENT_CAP;
+use snap_core::{EVENT_CAP, Ownership};
 use snap_index::Index;
 use snap_views::{ViewChain, ViewOrder, view_order, view_sums};
 use std::alloc::{AllocError, Global};
@@ -29,7 +29,7 @@ const MOST_WORKERS: usize = 2;
 pub fn build<R: Threads + Sync>(
     rt: &R,
     alloc: Global,
-    index: &Index<'_>,
+    index: &Index<'_, impl Ownership + Sync>,
 ) -> Result<Vec<u32>, AllocError>
     requires { HasNoFault (calls_of index.now) }
     ensures printed { IfOk result
@@ -43,10 +43,10 @@ pub fn build<R: Threads + Sync>(
 
 /// The order of `build`, along a given chain of the completed views. At most `workers` workers share the calls, and each of them
 /// has at least 16,384.
-pub fn build_of_chain<R: Threads + Sync>(
+pub fn build_of_chain<R: Threads + Sync, O: Ownership + Sync>(
     rt: &R,
     alloc: Global,
-    index: &Index<'_>,
+    index: &Index<'_, O>,
     chain: ViewChain,
     workers: u32,
 ) -> Result<Vec<u32>, AllocError>
@@ -61,9 +61,9 @@ pub fn build_of_chain<R: Threads + Sync>(
 }
 
 /// The order of `build_of_chain` on the calling thread, for a caller without a runtime.
-pub fn build_alone(
+pub fn build_alone<O: Ownership>(
     alloc: Global,
-    index: &Index<'_>,
+    index: &Index<'_, O>,
     chain: ViewChain,
 ) -> Result<Vec<u32>, AllocError>
     requires fault { HasNoFault (calls_of index.now) }
@@ -77,7 +77,7 @@ pub fn build_alone(
 }
 
 // The completed views of a history without a fault, as a chain.
-fn chain_of(alloc: Global, index: &Index<'_>) -> Result<ViewChain, AllocError>
+fn chain_of<O: Ownership>(alloc: Global, index: &Index<'_, O>) -> Result<ViewChain, AllocError>
     requires { HasNoFault (calls_of index.now) }
     ensures { IfOk result (IsViewChain (calls_of index.now)) }
 {
@@ -89,9 +89,9 @@ fn chain_of(alloc: Global, index: &Index<'_>) -> Result<ViewChain, AllocError>
 }
 
 // The printed order by the keys of the printed calls.
-fn ordered(
+fn ordered<O: Ownership>(
     alloc: Global,
-    index: &Index<'_>,
+    index: &Index<'_, O>,
     mut keys: Vec<(u32, u32)>,
 ) -> Result<Vec<u32>, AllocError>
     requires fault { HasNoFault (calls_of index.now) }

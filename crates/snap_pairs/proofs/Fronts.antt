@@ -2,7 +2,7 @@
 use Rattle.std.proofs.Common.{◌≡◌, ℕ, ◌≤◌, List, [], length, sym, ap, ◌∙◌, arith}
 use Rattle.snap_core.specs.declared.event.Event.{Event}
 use Rattle.snap_core.specs.Calls.{Call, calls_of, views_of}
-use Rattle.snap_core.specs.Events.{IsBoundedHistory}
+use Rattle.snap_core.specs.Bounded.{IsBoundedOrdered}
 use Rattle.snap_conditions.specs.declared.tally.Tally.{Tally}
 use Rattle.snap_conditions.specs.Tally.{merged, tally_of, SumsFit}
 use Rattle.snap_conditions.proofs.Ranges.{ranges_fit, tallies_join}
@@ -32,7 +32,7 @@ module _ (calls : List Call) (n n' m m' : ℕ) (le : n ≤ n') (le' : m ≤ m') 
       let b = (tallies_join calls).adjoining 0 m m' (omega arith) le' in
       sym (λ i. with_reads (a i) (b i))
 
-pub front_fits : (es : List Event) → IsBoundedHistory es → (n n' m m' : ℕ) → n ≤ n' → n' ≤ length (views_of (calls_of es)) → m ≤ m' → m' ≤ length (views_of (calls_of es)) →
+pub front_fits : (es : List Event) → IsBoundedOrdered es → (n n' m m' : ℕ) → n ≤ n' → n' ≤ length (views_of (calls_of es)) → m ≤ m' → m' ≤ length (views_of (calls_of es)) →
     SumsFit (front_tally (calls_of es) n m) (with_reads (tally_of (calls_of es) (views_between (calls_of es) n n')) (tally_of (calls_of es) (views_between (calls_of es) m m')))
 front_fits es kept n n' m m' le end le' end' =
     let a = ranges_fit es kept 0 n n' (omega arith) le end in

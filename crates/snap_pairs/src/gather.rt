@@ -7,12 +7,18 @@ ghost use Rattle.snap_pairs.specs.inside.Pieces.{AreAnswers, AreTallied, FitSlot
 
 use crate::worker::{Answer, Drawn};
 use snap_conditions::{Tally, merge};
+use snap_core::Ownership;
 use snap_index::Index;
 use snap_threads::{Claim, Claims, Cutting};
 use std::alloc::{AllocError, Global};
 
 // Puts each tally into the slot of its piece.
-fn put_tallies(index: &Index<'_>, cutting: Cutting, slots: &mut [Option<Tally>], pairs: &[Drawn])
+fn put_tallies<O: Ownership>(
+    index: &Index<'_, O>,
+    cutting: Cutting,
+    slots: &mut [Option<Tally>],
+    pairs: &[Drawn],
+)
     requires slots { FitSlots (calls_of index.now) cutting.pieces slots.old }
     requires pairs { AreTallied (calls_of index.now) cutting.pieces pairs.now }
     ensures fit { FitSlots (calls_of index.now) cutting.pieces slots.new }
@@ -26,9 +32,9 @@ fn put_tallies(index: &Index<'_>, cutting: Cutting, slots: &mut [Option<Tally>],
 }
 
 // The claims of all answers, and the tally of each piece that they drew in its slot.
-pub(crate) fn gather(
+pub(crate) fn gather<O: Ownership>(
     alloc: Global,
-    index: &Index<'_>,
+    index: &Index<'_, O>,
     cutting: Cutting,
     counter: &Claims,
     mut answers: Vec<Result<Answer, AllocError>>,
@@ -51,7 +57,11 @@ pub(crate) fn gather(
 }
 
 // The tally of all views, from the tallies of all pieces in their order.
-pub(crate) fn merge_slots(index: &Index<'_>, cutting: Cutting, slots: &[Option<Tally>]) -> Tally
+pub(crate) fn merge_slots<O: Ownership>(
+    index: &Index<'_, O>,
+    cutting: Cutting,
+    slots: &[Option<Tally>],
+) -> Tally
     requires fit { FitSlots (calls_of index.now) cutting.pieces slots.now }
     requires full { (p : ℕ) → p < cutting.pieces → IsFull slots.now p }
     ensures { result ≡ tally_of (calls_of index.now) (views_of (calls_of index.now)) }

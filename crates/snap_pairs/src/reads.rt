@@ -13,7 +13,7 @@ ghost use Rattle.snap_pairs.specs.inside.Reads.{AreParts, IsGridFor, part_start}
 use crate::pieces::{block_at, start_of};
 use rayon::prelude::*;
 use snap_conditions::{Tally, tally_without_read};
-use snap_core::COMPONENT_COUNT;
+use snap_core::{COMPONENT_COUNT, Ownership};
 use snap_grid::Column;
 use snap_index::Index;
 use snap_tally::{ViewGrid, columns_between, read_faults_by_grid};
@@ -29,12 +29,12 @@ const VIEWS_A_THREAD: u32 = 16_384;
 const FEW_COMPONENTS: usize = 64;
 
 // A grid of the views if they have a read fault, otherwise the views as a chain.
-pub(crate) fn grid_or_chain<'i, 'h, R: Threads + Sync>(
+pub(crate) fn grid_or_chain<'i, 'h, R: Threads + Sync, O: Ownership + Sync>(
     rt: &R,
     alloc: Global,
-    index: &'i Index<'h>,
+    index: &'i Index<'h, O>,
     cutting: Cutting,
-) -> Result<(Option<ViewGrid<'i, 'h>>, Option<ViewChain>), AllocError>
+) -> Result<(Option<ViewGrid<'i, 'h, O>>, Option<ViewChain>), AllocError>
     ensures grid { IfOk result (λ found. IsGridFor index.entry.now found.0) }
     ensures chain { IfOk result (λ found. IfSome found.1 (IsViewChain (calls_of index.entry.now))) }
     ensures found { IfOk result (λ found. IsSome found.1 ↔ (read_faults (calls_of index.entry.now) (views_of (calls_of index.entry.now)) ≡ [])) }
@@ -54,10 +54,10 @@ pub(crate) fn grid_or_chain<'i, 'h, R: Threads + Sync>(
 
 // The tally of a piece. A grid compares whole blocks of views, and a part of one takes as long. So the read faults of a block are
 // counted with the piece in which it begins. Each block is compared once, for every number of pieces.
-pub(crate) fn piece_tally(
+pub(crate) fn piece_tally<O: Ownership>(
     alloc: Global,
-    index: &Index<'_>,
-    grid: &Option<ViewGrid<'_, '_>>,
+    index: &Index<'_, O>,
+    grid: &Option<ViewGrid<'_, '_, O>>,
     cutting: Cutting,
     piece: u32,
 ) -> Result<Tally, AllocError>
@@ -86,10 +86,10 @@ pub(crate) fn piece_tally(
 
 // The sums of the numbers that the completed views show, by call number. Few are added up on this thread. More are halved while each
 // half has a share or more, so each worker of the cutting has at most one share.
-fn shared_sums<R: Threads + Sync>(
+fn shared_sums<R: Threads + Sync, O: Ownership + Sync>(
     rt: &R,
     alloc: Global,
-    index: &Index<'_>,
+    index: &Index<'_, O>,
     cutting: Cutting,
 ) -> Result<Vec<u64>, AllocError>
     ensures { IfOk result (λ sums. AreViewSums (calls_of index.now) sums.items) }
@@ -112,10 +112,10 @@ fn shared_sums<R: Threads + Sync>(
 }
 
 // A column for each component that some completed view lists. Each worker of the cutting makes those of its part of the components.
-fn view_columns<R: Threads + Sync>(
+fn view_columns<R: Threads + Sync, O: Ownership + Sync>(
     rt: &R,
     alloc: Global,
-    index: &Index<'_>,
+    index: &Index<'_, O>,
     cutting: Cutting,
 ) -> Result<Vec<Column>, AllocError>
     ensures { IfOk result (λ columns. AreColumnsOf (calls_of index.now) 0 component_count columns.items) }
@@ -148,9 +148,9 @@ fn part_numbers(alloc: Global, cutting: Cutting) -> Result<Vec<u32>, AllocError>
 }
 
 // The columns of a part of the components.
-fn columns_of_part(
+fn columns_of_part<O: Ownership>(
     alloc: Global,
-    index: &Index<'_>,
+    index: &Index<'_, O>,
     cutting: Cutting,
     part: u32,
 ) -> Result<Vec<Column>, AllocError>
@@ -164,9 +164,9 @@ fn columns_of_part(
 }
 
 // The columns of all parts, in the order of their components.
-fn joined(
+fn joined<O: Ownership>(
     alloc: Global,
-    index: &Index<'_>,
+    index: &Index<'_, O>,
     cutting: Cutting,
     mut parts: Vec<Result<Vec<Column>, AllocError>>,
 ) -> Result<Vec<Column>, AllocError>

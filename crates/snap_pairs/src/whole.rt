@@ -12,7 +12,7 @@ use crate::gather::{gather, merge_slots};
 use crate::reads::grid_or_chain;
 use crate::worker::{Answer, draw_all};
 use snap_conditions::Tally;
-use snap_core::Gate;
+use snap_core::{Gate, Ownership};
 use snap_index::Index;
 use snap_tally::ViewGrid;
 use snap_threads::{Claim, Claims, Cutting, each_job};
@@ -25,10 +25,10 @@ use std::thread::Threads;
 /// A worker that has drawn a piece calls `gate.at` before it works on it. The arguments are its own number, from 0, and the number of
 /// pieces that it drew before. If a worker cannot be started, the calling thread does its work under its number. The call waits
 /// for the workers, and so for the gate. The error is want of memory.
-pub fn tally_and_chain<R: Threads + Sync, G: Gate>(
+pub fn tally_and_chain<R: Threads + Sync, G: Gate, O: Ownership + Sync>(
     rt: &R,
     alloc: Global,
-    index: &Index<'_>,
+    index: &Index<'_, O>,
     cutting: Cutting,
     gate: &G,
 ) -> Result<(Tally, Option<ViewChain>), AllocError>
@@ -46,7 +46,7 @@ pub fn tally_and_chain<R: Threads + Sync, G: Gate>(
 pub fn tally<R: Threads + Sync, G: Gate>(
     rt: &R,
     alloc: Global,
-    index: &Index<'_>,
+    index: &Index<'_, impl Ownership + Sync>,
     cutting: Cutting,
     gate: &G,
 ) -> Result<Tally, AllocError>
@@ -57,11 +57,11 @@ pub fn tally<R: Threads + Sync, G: Gate>(
 }
 
 // The tally of all completed views, by a grid of them if they have a read fault.
-fn tally_by<R: Threads + Sync, G: Gate>(
+fn tally_by<R: Threads + Sync, G: Gate, O: Ownership + Sync>(
     rt: &R,
     alloc: Global,
-    index: &Index<'_>,
-    reads: &Option<ViewGrid<'_, '_>>,
+    index: &Index<'_, O>,
+    reads: &Option<ViewGrid<'_, '_, O>>,
     cutting: Cutting,
     gate: &G,
 ) -> Result<Tally, AllocError>

@@ -7,7 +7,7 @@ ghost use Rattle.snap_pairs.specs.inside.Reads.{IsGridFor};
 
 use crate::reads::piece_tally;
 use snap_conditions::Tally;
-use snap_core::Gate;
+use snap_core::{Gate, Ownership};
 use snap_index::Index;
 use snap_tally::ViewGrid;
 use snap_threads::{Claim, Claims, Cutting};
@@ -28,10 +28,10 @@ pub(crate) struct Answer {
 }
 
 // Draws pieces until none is left.
-pub(crate) fn draw_all<G: Gate>(
+pub(crate) fn draw_all<G: Gate, O: Ownership>(
     alloc: Global,
-    index: &Index<'_>,
-    grid: &Option<ViewGrid<'_, '_>>,
+    index: &Index<'_, O>,
+    grid: &Option<ViewGrid<'_, '_, O>>,
     cutting: Cutting,
     counter: &Claims,
     mut claim: Claim,

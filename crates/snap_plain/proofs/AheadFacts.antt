@@ -1,5 +1,6 @@
 -- Lines that are read before it is their turn.
-use Rattle.std.proofs.Common.{◌≡◌, ◌≤◌, ◌+◌, ◌-◌, ◌++◌, ℕ, true, List, [], ◌∷◌, drop, length, take, Bool, Result, Ok, Err, refl, sym, ap, subst, arith, ◌∙◌, append_assoc, append-nil}
+use Rattle.std.proofs.Common.{◌≡◌, ◌≤◌, ◌+◌, ◌-◌, ◌++◌, ℕ, true, List, [], ◌∷◌, drop, length, take, Ok, Err, refl, sym, ap, subst, arith, ◌∙◌}
+use Rattle.snap_core.specs.declared.limit.Limit.{Limit}
 use Rattle.std.proofs.lemmas.List.{length-append, take-append-drop}
 use Rattle.std.proofs.Math.Seq.{drop-append_seam}
 use Rattle.snap_core.specs.declared.event.Event.{Event}
@@ -8,7 +9,6 @@ use Rattle.snap_format.specs.declared.refusal.ReadRefusal.{ReadRefusal}
 use Rattle.snap_format.specs.Layout.{is_header_row}
 use Rattle.snap_format.specs.Taking.{Midway, RefusesRows, TakesRow}
 use Rattle.snap_plain.specs.declared.pieces.Piece.{Piece}
-use Rattle.snap_plain.specs.declared.ahead.Ahead.{Ahead}
 use Rattle.snap_plain.specs.declared.ahead.Stop.{Stop}
 use Rattle.snap_plain.specs.declared.ahead.Stop.TheVariants as stops
 use Rattle.snap_plain.specs.Ahead.{ArePieces, IsEndOfLine, SpellsNone, StopsFor}
@@ -93,7 +93,7 @@ spells_none lines text left from xs is begins other rows h = subst (BeginsOtherw
 -- ---- in their turn
 
 -- what is left is known in another way
-pub left_as : (limit : ℕ) (rows : List Fields) (A B : List Fields → Type 0) (events : List Event) (i : ℕ) (m : Midway limit rows A events i) → B (drop i m.later) → Midway limit rows B events i
+pub left_as : (limit : Limit) (rows : List Fields) (A B : List Fields → Type 0) (events : List Event) (i : ℕ) (m : Midway limit rows A events i) → B (drop i m.later) → Midway limit rows B events i
 left_as limit rows A B events i m left = record {
   head = m.head;
   later = m.later;
@@ -107,7 +107,7 @@ left_as limit rows A B events i m left = record {
   room = m.room;
 }
 
-pub one_taken : (limit : ℕ) (rows : List Fields) (left xs : List Event) (x : Event) (Rest : List Fields → Type 0) (old new : List Event) → left ≡ x ∷ xs → Midway limit rows (SpellsAll left Rest) old (length old)
+pub one_taken : (limit : Limit) (rows : List Fields) (left xs : List Event) (x : Event) (Rest : List Fields → Type 0) (old new : List Event) → left ≡ x ∷ xs → Midway limit rows (SpellsAll left Rest) old (length old)
     → ((r : Fields) → row_event r ≡ Ok x → TakesRow limit (length old + 2) old new r (Ok tt)) → Midway limit rows (SpellsAll xs Rest) new (length new)
 one_taken limit rows left xs x Rest old new is midway takes =
     let m = subst (λ es. Midway limit rows (SpellsAll es Rest) old (length old)) is midway in
@@ -115,7 +115,7 @@ one_taken limit rows left xs x Rest old new is midway takes =
     let after = more limit rows (SpellsAll (x ∷ xs) Rest) (SpellsAll xs Rest) old new (length old) m row (later, here, next) (takes row spells) in
     subst (λ n. Midway limit rows (SpellsAll xs Rest) new n) (sym after.count) after
 
-pub one_refused : (limit : ℕ) (rows : List Fields) (left xs : List Event) (x : Event) (Rest : List Fields → Type 0) (old new : List Event) (e : ReadRefusal) → left ≡ x ∷ xs → Midway limit rows (SpellsAll left Rest) old (length old)
+pub one_refused : (limit : Limit) (rows : List Fields) (left xs : List Event) (x : Event) (Rest : List Fields → Type 0) (old new : List Event) (e : ReadRefusal) → left ≡ x ∷ xs → Midway limit rows (SpellsAll left Rest) old (length old)
     → ((r : Fields) → row_event r ≡ Ok x → TakesRow limit (length old + 2) old new r (Err e)) → RefusesRows limit rows e
 one_refused limit rows left xs x Rest old new e is midway takes =
     let m = subst (λ es. Midway limit rows (SpellsAll es Rest) old (length old)) is midway in
@@ -123,14 +123,14 @@ one_refused limit rows left xs x Rest old new e is midway takes =
     stopped limit rows (SpellsAll (x ∷ xs) Rest) old (length old) m row later e here (takes row spells)
 
 -- what was read ahead from where the lines that were taken end
-pub ahead_begins : (limit : ℕ) (rows : List Fields) (lines rest : List ℕ) (from to : ℕ) (xs old : List Event) → ((later : List Fields) → HasRows (drop from lines) later → SpellsAll xs (HasRows (drop to lines)) later)
+pub ahead_begins : (limit : Limit) (rows : List Fields) (lines rest : List ℕ) (from to : ℕ) (xs old : List Event) → ((later : List Fields) → HasRows (drop from lines) later → SpellsAll xs (HasRows (drop to lines)) later)
     → from ≡ length lines - length rest → HasTaken limit lines rest old rows → Midway limit rows (SpellsAll xs (HasRows (drop to lines))) old (length old)
 ahead_begins limit rows lines rest from to xs old spells at (is, m) =
     let same : rest ≡ drop from lines = rw at (rest_is_drop rest lines is) in
     left_as limit rows (HasRows rest) (SpellsAll xs (HasRows (drop to lines))) old (length old) m (spells (drop (length old) m.later) (subst (λ t. HasRows t (drop (length old) m.later)) same m.left))
 
 -- a history without events has taken no line
-pub none_taken : (limit : ℕ) (head : Fields) (later : List Fields) (lines : List ℕ) (events : List Event) → is_header_row head ≡ true → HasRows lines later → events ≡ [] → HasTaken limit lines lines events (head ∷ later)
+pub none_taken : (limit : Limit) (head : Fields) (later : List Fields) (lines : List ℕ) (events : List Event) → is_header_row head ≡ true → HasRows lines later → events ≡ [] → HasTaken limit lines lines events (head ∷ later)
 none_taken limit head later lines events heads h none = (
   whole lines,
   subst (λ n. Midway limit (head ∷ later) (HasRows lines) events n) (sym (ap length none)) (begun limit (head ∷ later) (HasRows lines) head events (later, refl, h) heads none),

@@ -1,5 +1,6 @@
 -- The front of a plain text: a byte order mark, empty lines and the header.
 use Rattle.std.proofs.Common.{cond, drop, ◌≡◌, ◌<◌, ◌≤◌, ◌==◌, ◌+◌, ℕ, zero, suc, Bool, true, false, List, [], ◌∷◌, length, get_or, All, refl, sym, ap, ◌∙◌, subst, arith}
+use Rattle.snap_core.specs.declared.limit.Limit.{Limit}
 use Rattle.std.specs.Prelude.{◌≢◌, ◌&&◌}
 use Rattle.std.proofs.lemmas.Bool.Decides.{nat_tests}
 use Rattle.std.proofs.lemmas.List.Elements.{All-tail}
@@ -139,6 +140,6 @@ no_stamped_header_of (a ∷ b ∷ c ∷ d ∷ []) other = refl
 no_stamped_header_of (a ∷ b ∷ c ∷ d ∷ e ∷ []) other = absurd (other (omega arith))
 no_stamped_header_of (a ∷ b ∷ c ∷ d ∷ e ∷ f ∷ r) other = refl
 
-pub no_header_there : (limit : ℕ) (line : List ℕ) (rows : List Fields) → HasRows line rows → BeginsOtherwise is_header_row line → BeginsOtherwise is_stamped_header_row line → RowsFault limit rows 1 faults.Header
+pub no_header_there : (limit : Limit) (line : List ℕ) (rows : List Fields) → HasRows line rows → BeginsOtherwise is_header_row line → BeginsOtherwise is_stamped_header_row line → RowsFault limit rows 1 faults.Header
 no_header_there limit line [] h a b = no_rows limit [] refl
 no_header_there limit line (head ∷ later) h a b = no_header limit (head ∷ later) head later refl (a (head ∷ later) h head later refl) (b (head ∷ later) h head later refl)

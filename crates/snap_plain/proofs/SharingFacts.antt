@@ -1,5 +1,6 @@
 -- What workers send, and what is taken out of rings.
 use Rattle.std.proofs.Common.{◌≡◌, ◌+◌, ◌++◌, ◌∙◌, ℕ, List, [], ◌∷◌, All, Some, append_assoc, append-nil, ap, arith, get_or, length, sym}
+use Rattle.snap_core.specs.declared.limit.Limit.{Limit}
 use Rattle.std.proofs.lemmas.List.FromFn.{get_or-map-range_with_len, length-map-range_with_len}
 use Rattle.std.specs.Prelude.{slice_get}
 use Rattle.std.specs.List.{AllZip}
@@ -15,7 +16,7 @@ zip_more R (a ∷ xs) [] x y h r = absurd h
 zip_more R (a ∷ xs) (b ∷ ys) x y h r = (h.0, zip_more R xs ys x y h.1 r)
 
 -- one piece more was drawn, and what was read of it was sent
-pub one_read : (lines : List ℕ) (limit : ℕ) (pieces : List Piece) (before after : List ℕ) (old new : List Ahead) (number : ℕ) (piece : Piece) → AreRead lines limit pieces before old → after ≡ before ++ number ∷ []
+pub one_read : (lines : List ℕ) (limit : Limit) (pieces : List Piece) (before after : List ℕ) (old new : List Ahead) (number : ℕ) (piece : Piece) → AreRead lines limit pieces before old → after ≡ before ++ number ∷ []
     → AddsPart lines limit piece old new → slice_get pieces number ≡ Some piece → AreRead lines limit pieces after new
 one_read lines limit pieces before after old new number piece read drawn (part, is, went) there =
     rw (drawn, went) (zip_more (λ n p. (one : Piece) × (slice_get pieces n ≡ Some one) × IsReadOf lines limit one p) before old number part read (piece, there, is))

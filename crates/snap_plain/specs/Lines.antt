@@ -1,5 +1,6 @@
 -- Plain texts: without a quote or a carriage return each record is a line, cut at its commas.
 use Rattle.std.specs.Prelude.{◌≡◌, ◌≢◌, ◌<◌, ◌+◌, ◌⊎◌, ◌++◌, ⊤, ℕ, Bool, true, false, List, [], ◌∷◌, length, get_or, is_ok, Some, Ok}
+use Rattle.snap_core.specs.declared.limit.Limit.{Limit}
 use Rattle.std.specs.List.{All}
 use Rattle.csv.specs.Machine.{Read, next_record}
 use Rattle.csv.specs.Reading.{default_config, records_from}
@@ -81,7 +82,7 @@ BeginsLines xs rest text = (rows : List Fields) → HasRows text rows → IsRest
 abbrev pub HasLines : List Fields → Lines → Type 0
 HasLines rows (lines.Bare text) = (head : Fields) × (later : List Fields) × (rows ≡ head ∷ later) × (is_header_row head ≡ true) × HasRows text.now later
 HasLines rows (lines.Stamped text) = (head : Fields) × (later : List Fields) × (rows ≡ head ∷ later) × (is_stamped_header_row head ≡ true) × HasRows text.now later
-HasLines rows lines.Headless = (limit : ℕ) → RowsFault limit rows 1 faults.Header
+HasLines rows lines.Headless = (limit : Limit) → RowsFault limit rows 1 faults.Header
 
 -- a line, or what is left of one, ends with more fields than `count`, or with fewer
 abbrev pub EndsWithOthers : ℕ → List ℕ → Type 0

@@ -8,7 +8,7 @@ ghost use Rattle.snap_plain.specs.Turns.{TakesAhead, TakesOn};
 use crate::fields::four_first;
 use crate::front::behind_newlines;
 use crate::pieces::Piece;
-use snap_core::{Event, History, Limit};
+use snap_core::{AnyWriters, Event, History, Limit};
 use snap_format::{ReadRefusal, row_limit, take_event};
 use snap_text::Known;
 use std::alloc::{AllocError, Global};
@@ -133,7 +133,7 @@ pub(crate) fn read_piece(alloc: Global, lines: &[u8], piece: Piece, limit: Limit
 }
 
 // Adds events that were read ahead to a history, in order, up to the first fault.
-fn take_all(history: &mut History, events: Vec<Event>) -> Result<(), ReadRefusal>
+fn take_all(history: &mut History<AnyWriters>, events: Vec<Event>) -> Result<(), ReadRefusal>
     ensures takes { (rest : List ℕ) → TakesAhead history.old.limit (SpellsAll events.items (HasRows rest)) (HasRows rest) history.old.events history.new.events result }
     ensures limit { history.new.limit ≡ history.old.limit }
 {
@@ -164,7 +164,7 @@ pub(crate) fn take_ahead<'t>(
     lines: &'t [u8],
     behind: &'t [u8],
     ahead: &mut Vec<Ahead>,
-    history: &mut History,
+    history: &mut History<AnyWriters>,
 ) -> Result<&'t [u8], ReadRefusal>
     requires { All (IsAhead lines.now) ahead.old.items }
     ensures takes { TakesOn history.old.limit lines.now behind.now history.old.events history.new.events result }

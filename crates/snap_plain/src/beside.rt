@@ -15,7 +15,7 @@ use crate::lines::{Lines, history_of_lines, rest_history, take_lines};
 use crate::pieces::{Piece, pieces_of};
 use crate::rings::{AheadOf, Job, Outlet, Text, receive, send_drawn};
 use rtrb::RingBuffer;
-use snap_core::{History, Limit};
+use snap_core::{AnyWriters, History, Limit};
 use snap_format::ReadRefusal;
 use snap_text::Known;
 use snap_threads::{Claim, Claims, Cutting, each_job_beside};
@@ -26,7 +26,7 @@ use std::thread::Threads;
 // A history that takes lines in order, the lines that it has not taken, and the parts that were read ahead and not yet taken.
 #[derive(Drop)]
 struct Turns<'t> {
-    history: History,
+    history: History<AnyWriters>,
     behind: &'t [u8],
     waiting: Vec<Ahead>,
 }
@@ -39,8 +39,8 @@ pub fn history_of_lines_shared<R: Threads + Sync>(
     lines: Lines<'_>,
     limit: Limit,
     cutting: Cutting,
-) -> Result<(History, Option<Vec<u32>>), ReadRefusal>
-    ensures { (rows : List Fields) → HasLines rows lines.entry → AnswersNumbered limit.events rows result }
+) -> Result<(History<AnyWriters>, Option<Vec<u32>>), ReadRefusal>
+    ensures { (rows : List Fields) → HasLines rows lines.entry → AnswersNumbered limit rows result }
 {
     let Lines::Bare(bare) = lines else {
         return history_of_lines(alloc, lines, limit);
@@ -82,11 +82,11 @@ fn shared_history<T: Text + Send + Sync, R: Threads + Sync>(
     pieces: &[Piece],
     limit: Limit,
     cutting: Cutting,
-) -> Result<(History, Option<Vec<u32>>), ReadRefusal>
+) -> Result<(History<AnyWriters>, Option<Vec<u32>>), ReadRefusal>
     requires text { lines.now ≡ T.lines }
     requires pieces { All (IsPieceOf lines.now) pieces.now }
     requires cutting { cutting.pieces ≡ length pieces.now }
-    ensures { (head : Fields) (later : List Fields) → is_header_row head ≡ true → HasRows lines.now later → AnswersNumbered limit.events (head ∷ later) result }
+    ensures { (head : Fields) (later : List Fields) → is_header_row head ≡ true → HasRows lines.now later → AnswersNumbered limit (head ∷ later) result }
 {
     let (counter, jobs, outlets, own) = start::<T>(alloc, cutting)?;
     let shared = &counter;
@@ -97,11 +97,11 @@ fn shared_history<T: Text + Send + Sync, R: Threads + Sync>(
         jobs,
         &|job: Job<T>| -> Job<T>
             requires { (lines.now ≡ T.lines) × All (IsPieceOf lines.now) pieces.now × (shared.now.pieces ≡ length pieces.now) × IsNewJob shared.now job }
-            ensures { IsDone lines.entry.now limit.events pieces.entry.now shared.entry.now result }
+            ensures { IsDone lines.entry.now limit pieces.entry.now shared.entry.now result }
         { send_drawn(alloc, lines, pieces, shared, limit, job) },
         || -> Result<(Turns, Vec<Outlet<T>>), ReadRefusal>
             requires { (lines.now ≡ T.lines) × All (IsPieceOf lines.now) pieces.now × (shared.now.pieces ≡ length pieces.now) × IsNewClaim shared.now own }
-            ensures { TakesTurns (λ turns. turns.0) limit.events lines.entry.now result }
+            ensures { TakesTurns (λ turns. turns.0) limit lines.entry.now result }
         { take_turns(alloc, lines, pieces, shared, limit, own, outlets) },
     );
     done?;
@@ -116,11 +116,11 @@ fn last_history<T: Text>(
     limit: Limit,
     turns: Turns<'_>,
     mut outlets: Vec<Outlet<T>>,
-) -> Result<(History, Option<Vec<u32>>), ReadRefusal>
+) -> Result<(History<AnyWriters>, Option<Vec<u32>>), ReadRefusal>
     requires text { lines.now ≡ T.lines }
-    requires limit { turns.history.limit ≡ limit.events }
+    requires limit { turns.history.limit ≡ limit }
     requires waiting { All (IsAhead lines.now) turns.waiting.items }
-    ensures { (rows : List Fields) → HasTaken limit.events lines.now turns.entry.behind.now turns.entry.history.events rows → AnswersNumbered limit.events rows result }
+    ensures { (rows : List Fields) → HasTaken limit lines.now turns.entry.behind.now turns.entry.history.events rows → AnswersNumbered limit rows result }
 {
     let Turns {
         mut history,
@@ -185,12 +185,12 @@ fn take_drawn<'t, T: Text>(
     requires pieces { All (IsPieceOf lines.now) pieces.now }
     requires counter { counter.now.pieces ≡ length pieces.now }
     requires claim { IsClaimOf counter.now claim.old }
-    ensures takes { TakesTurns (λ turns. turns) limit.events lines.now result }
+    ensures takes { TakesTurns (λ turns. turns) limit lines.now result }
     ensures of_counter { IsClaimOf counter.now claim.new }
     ensures finished { OnOk result (IsFinished claim.new) }
 {
     let mut known = Known::new(alloc);
-    let mut history = History::with_limit(alloc, limit);
+    let mut history = History::of_any(alloc, limit);
     let mut waiting = Vec::new(alloc);
     let mut behind = lines;
     'each: while let Some(number) = counter.draw(claim) {
@@ -233,7 +233,7 @@ fn take_turns<'t, T: Text>(
     requires pieces { All (IsPieceOf lines.now) pieces.now }
     requires counter { counter.now.pieces ≡ length pieces.now }
     requires claim { IsNewClaim counter.now claim }
-    ensures { TakesTurns (λ turns. turns.0) limit.events lines.now result }
+    ensures { TakesTurns (λ turns. turns.0) limit lines.now result }
 {
     match take_drawn(
         alloc,

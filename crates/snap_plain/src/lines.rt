@@ -13,7 +13,7 @@ use crate::front::{
     behind_newlines, behind_order_mark, lines_under_header, lines_under_stamped_header,
 };
 use memchr::memchr2;
-use snap_core::{History, Limit};
+use snap_core::{AnyWriters, History, Limit};
 use snap_format::{ReadRefusal, Stamped, history_by_stamps, row_limit, take_fields, take_stamped};
 use snap_text::{Known, TextFault};
 use std::alloc::Global;
@@ -32,10 +32,10 @@ pub(crate) fn take_lines<'t>(
     text: &'t [u8],
     stop: usize,
     limit: Limit,
-    history: &mut History,
+    history: &mut History<AnyWriters>,
 ) -> Result<&'t [u8], ReadRefusal>
-    requires { history.old.limit ≡ limit.events }
-    ensures takes { (lines : List ℕ) → TakesOn limit.events lines text.now history.old.events history.new.events result }
+    requires { history.old.limit ≡ limit }
+    ensures takes { (lines : List ℕ) → TakesOn limit lines text.now history.old.events history.new.events result }
     ensures stop { IfOk result (λ rest. length rest.now ≤ stop) }
     ensures limit { history.new.limit ≡ history.old.limit }
 {
@@ -63,10 +63,10 @@ pub(crate) fn rest_history(
     alloc: Global,
     rest: &[u8],
     limit: Limit,
-    mut history: History,
-) -> Result<(History, Option<Vec<u32>>), ReadRefusal>
-    requires { history.limit ≡ limit.events }
-    ensures { (lines : List ℕ) (rows : List Fields) → HasTaken limit.events lines rest.now history.events rows → AnswersNumbered limit.events rows result }
+    mut history: History<AnyWriters>,
+) -> Result<(History<AnyWriters>, Option<Vec<u32>>), ReadRefusal>
+    requires { history.limit ≡ limit }
+    ensures { (lines : List ℕ) (rows : List Fields) → HasTaken limit lines rest.now history.events rows → AnswersNumbered limit rows result }
 {
     take_lines(alloc, &mut Known::new(alloc), rest, 0, limit, &mut history)?;
     Ok((history, None))
@@ -77,10 +77,10 @@ fn lines_history(
     alloc: Global,
     lines: &[u8],
     limit: Limit,
-) -> Result<(History, Option<Vec<u32>>), ReadRefusal>
-    ensures { (head : Fields) (later : List Fields) → is_header_row head ≡ true → HasRows lines.now later → AnswersNumbered limit.events (head ∷ later) result }
+) -> Result<(History<AnyWriters>, Option<Vec<u32>>), ReadRefusal>
+    ensures { (head : Fields) (later : List Fields) → is_header_row head ≡ true → HasRows lines.now later → AnswersNumbered limit (head ∷ later) result }
 {
-    rest_history(alloc, lines, limit, History::with_limit(alloc, limit))
+    rest_history(alloc, lines, limit, History::of_any(alloc, limit))
 }
 
 // Takes the stamped events of the lines under the header, up to the first with a fault other than a repeated stamp.
@@ -92,7 +92,7 @@ fn read_stamped_lines(
     stamped: &mut Vec<Stamped>,
 ) -> Result<(), ReadRefusal>
     requires { stamped.old.items ≡ [] }
-    ensures { (rows : List Fields) → HasRows lines.now rows → ReadsStamped limit.events rows stamped.new.items result }
+    ensures { (rows : List Fields) → HasRows lines.now rows → ReadsStamped limit rows stamped.new.items result }
 {
     let mut left = lines;
     for i in 0..row_limit(limit) {
@@ -117,8 +117,8 @@ fn stamped_lines_history(
     alloc: Global,
     lines: &[u8],
     limit: Limit,
-) -> Result<(History, Vec<u32>), ReadRefusal>
-    ensures { (rows : List Fields) → HasRows lines.now rows → AnswersStamps limit.events rows result }
+) -> Result<(History<AnyWriters>, Vec<u32>), ReadRefusal>
+    ensures { (rows : List Fields) → HasRows lines.now rows → AnswersStamps limit rows result }
 {
     let mut stamped = Vec::new(alloc);
     let read = read_stamped_lines(alloc, &mut Known::new(alloc), lines, limit, &mut stamped);
@@ -154,8 +154,8 @@ pub fn history_of_lines(
     alloc: Global,
     lines: Lines<'_>,
     limit: Limit,
-) -> Result<(History, Option<Vec<u32>>), ReadRefusal>
-    ensures { (rows : List Fields) → HasLines rows lines.entry → AnswersNumbered limit.events rows result }
+) -> Result<(History<AnyWriters>, Option<Vec<u32>>), ReadRefusal>
+    ensures { (rows : List Fields) → HasLines rows lines.entry → AnswersNumbered limit rows result }
 {
     match lines {
         Lines::Bare(lines) => lines_history(alloc, lines, limit),

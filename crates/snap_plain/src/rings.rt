@@ -59,7 +59,7 @@ fn send_piece<T: Text>(
     requires text { lines.now ≡ T.lines }
     requires piece { IsPieceOf lines.now piece }
     requires room { 0 < known_free inlet.old }
-    ensures sent { AddsPart lines.now limit.events piece (sent inlet.old) (sent inlet.new) }
+    ensures sent { AddsPart lines.now limit piece (sent inlet.old) (sent inlet.new) }
     ensures room { known_free inlet.old ≡ known_free inlet.new + 1 }
 {
     inlet.push_reserved(read_piece(alloc, lines, piece, limit));
@@ -80,7 +80,7 @@ pub(crate) fn send_drawn<T: Text>(
     requires job { IsNewJob counter.now job }
     ensures of_counter { IsClaimOf counter.now result.claim }
     ensures finished { IsFinished result.claim }
-    ensures sent { AreRead lines.now limit.events pieces.now (pieces_of result.claim) (sent result.inlet) }
+    ensures sent { AreRead lines.now limit pieces.now (pieces_of result.claim) (sent result.inlet) }
 {
     let Job {
         mut claim,

@@ -274,7 +274,7 @@ pub fn record_plan<R: Threads + Wait + Sync, G: Gate>(
     ensures places { HasNoScans plan.now.scripts → IfOk result (λ r. ArePlaces r.stamps.items) }
     ensures each_stamp { IfOk result (λ r. length r.stamps.items ≡ length r.history.events) }
     ensures few { IfOk result (λ r. length r.history.events ≤ 2 * steps_in plan.now.scripts) }
-    ensures limit { IfOk result (λ r. r.history.limit ≡ plan.now.limit) }
+    ensures limit { IfOk result (λ r. r.history.limit.events ≡ plan.now.limit) }
 {
     let (all, interfered) = run_plan(rt, alloc, plan, gate)?;
     let events = in_order(alloc, all)?;

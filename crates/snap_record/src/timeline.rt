@@ -78,7 +78,7 @@ pub(crate) fn history_of(
     requires history { IsHistory (events_in events.items) }
     requires short { length events.items ≤ limit.events }
     ensures events { IfOk result (λ history. history.events ≡ events_in events.items) }
-    ensures limit { IfOk result (λ history. history.limit ≡ limit.events) }
+    ensures limit { IfOk result (λ history. history.limit.events ≡ limit.events) }
 {
     let mut history = History::with_limit(alloc, limit);
     'each: for (_, event) in events {

@@ -10,7 +10,7 @@ ghost use Rattle.snap_report.specs.inside.Parts.{IsTextOf, lines_text};
 
 use crate::words::{Group, put_number, put_update_line, put_view_line};
 use rayon::prelude::*;
-use snap_core::Entry;
+use snap_core::{Entry, Ownership};
 use snap_index::{CallOp, Index};
 use std::alloc::{AllocError, Global};
 use std::thread::Threads;
@@ -19,7 +19,7 @@ use std::thread::Threads;
 const LINES_A_THREAD: usize = 16_384;
 
 // What a completed view shows.
-fn shown<'i>(index: &'i Index<'_>, call: u32) -> &'i [Entry]
+fn shown<'i, O: Ownership>(index: &'i Index<'_, O>, call: u32) -> &'i [Entry]
     requires below { call < length (calls_of index.now) }
     requires view { is_view (call_numbered (calls_of index.now) call) ≡ true }
     ensures { result.now ≡ entries_of (call_numbered (calls_of index.entry.now) call).operation }
@@ -30,10 +30,10 @@ fn shown<'i>(index: &'i Index<'_>, call: u32) -> &'i [Entry]
     view.entries()
 }
 
-fn put_call_line(
+fn put_call_line<O: Ownership>(
     out: &mut Vec<u8>,
     known: &mut Vec<Group>,
-    index: &Index<'_>,
+    index: &Index<'_, O>,
     number: u32,
 ) -> Result<(), AllocError>
     requires { HasLine (calls_of index.now) number }
@@ -49,7 +49,11 @@ fn put_call_line(
 }
 
 // Adds the lines of the calls with these numbers.
-fn put_lines(out: &mut Vec<u8>, index: &Index<'_>, numbers: &[u32]) -> Result<(), AllocError>
+fn put_lines<O: Ownership>(
+    out: &mut Vec<u8>,
+    index: &Index<'_, O>,
+    numbers: &[u32],
+) -> Result<(), AllocError>
     requires { All (HasLine (calls_of index.now)) numbers.now }
     ensures { OnOk result (out.new.items ≡ out.old.items ++ lines_text (calls_of index.now) numbers.now) }
 {
@@ -60,7 +64,11 @@ fn put_lines(out: &mut Vec<u8>, index: &Index<'_>, numbers: &[u32]) -> Result<()
     Ok(())
 }
 
-fn lines_of(alloc: Global, index: &Index<'_>, numbers: &[u32]) -> Result<Vec<u8>, AllocError>
+fn lines_of<O: Ownership>(
+    alloc: Global,
+    index: &Index<'_, O>,
+    numbers: &[u32],
+) -> Result<Vec<u8>, AllocError>
     requires { All (HasLine (calls_of index.now)) numbers.now }
     ensures { IsTextOf (calls_of index.now) numbers.now result }
 {
@@ -70,10 +78,10 @@ fn lines_of(alloc: Global, index: &Index<'_>, numbers: &[u32]) -> Result<Vec<u8>
 }
 
 // The lines of each block of `size` calls, each in a thread of its own. The last block may be shorter.
-fn lines_of_blocks<R: Threads + Sync>(
+fn lines_of_blocks<R: Threads + Sync, O: Ownership + Sync>(
     rt: &R,
     alloc: Global,
-    index: &Index<'_>,
+    index: &Index<'_, O>,
     numbers: &[u32],
     size: usize,
 ) -> Result<Vec<Result<Vec<u8>, AllocError>>, AllocError>
@@ -94,10 +102,10 @@ fn lines_of_blocks<R: Threads + Sync>(
 }
 
 // Adds the lines of blocks of `size` calls.
-fn put_blocks<R: Threads + Sync>(
+fn put_blocks<R: Threads + Sync, O: Ownership + Sync>(
     rt: &R,
     out: &mut Vec<u8>,
-    index: &Index<'_>,
+    index: &Index<'_, O>,
     numbers: &[u32],
     size: usize,
 ) -> Result<(), AllocError>
@@ -123,9 +131,9 @@ fn put_head(out: &mut Vec<u8>, order: &[u32]) -> Result<(), AllocError>
 }
 
 /// Adds the lines of an order, which is given by the numbers of its calls.
-pub(crate) fn put_order(
+pub(crate) fn put_order<O: Ownership>(
     out: &mut Vec<u8>,
-    index: &Index<'_>,
+    index: &Index<'_, O>,
     order: &[u32],
 ) -> Result<(), AllocError>
     requires { All (HasLine (calls_of index.now)) order.now }
@@ -136,10 +144,10 @@ pub(crate) fn put_order(
 }
 
 /// Adds the lines of an order, which at most `workers` threads share. Each has 16,384 lines or more.
-pub(crate) fn put_order_shared<R: Threads + Sync>(
+pub(crate) fn put_order_shared<R: Threads + Sync, O: Ownership + Sync>(
     rt: &R,
     out: &mut Vec<u8>,
-    index: &Index<'_>,
+    index: &Index<'_, O>,
     order: &[u32],
     workers: u32,
 ) -> Result<(), AllocError>

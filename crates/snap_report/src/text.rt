@@ -11,12 +11,13 @@ use crate::faults::put_faults;
 use crate::order::{put_order, put_order_shared};
 use crate::words::put_number;
 use snap_conditions::{Tally, is_atomic, is_monotone, is_regular};
+use snap_core::Ownership;
 use snap_index::Index;
 use std::alloc::{AllocError, Global};
 use std::thread::Threads;
 
 // Adds the line with the counts of a history.
-fn put_counts(out: &mut Vec<u8>, index: &Index<'_>) -> Result<(), AllocError>
+fn put_counts<O: Ownership>(out: &mut Vec<u8>, index: &Index<'_, O>) -> Result<(), AllocError>
     ensures { OnOk result (out.new.items ≡ out.old.items ++ line_text (count_line index.now)) }
 {
     put_number(out, b"events ", u64::from(index.event_count()))?;
@@ -58,7 +59,11 @@ pub fn verdict_text(alloc: Global, tally: &Tally) -> Result<Vec<u8>, AllocError>
 }
 
 // The lines before the order or the faults, in the memory of a vector. What the vector had is lost.
-fn front_in(room: Vec<u8>, index: &Index<'_>, tally: &Tally) -> Result<Vec<u8>, AllocError>
+fn front_in<O: Ownership>(
+    room: Vec<u8>,
+    index: &Index<'_, O>,
+    tally: &Tally,
+) -> Result<Vec<u8>, AllocError>
     ensures { IfOk result (λ text. text.items ≡ front_text index.now tally.now) }
 {
     let mut out = room;
@@ -72,7 +77,7 @@ fn front_in(room: Vec<u8>, index: &Index<'_>, tally: &Tally) -> Result<Vec<u8>, 
 /// calls' numbers. Without an order, each kind that has faults has one line.
 pub fn report(
     alloc: Global,
-    index: &Index<'_>,
+    index: &Index<'_, impl Ownership>,
     tally: &Tally,
     order: Option<&[u32]>,
 ) -> Result<Vec<u8>, AllocError>
@@ -85,9 +90,9 @@ pub fn report(
 }
 
 /// The report of `report`, in the memory of a vector. What the vector had is lost.
-pub fn report_in(
+pub fn report_in<O: Ownership>(
     room: Vec<u8>,
-    index: &Index<'_>,
+    index: &Index<'_, O>,
     tally: &Tally,
     order: Option<&[u32]>,
 ) -> Result<Vec<u8>, AllocError>
@@ -105,10 +110,10 @@ pub fn report_in(
 }
 
 /// The report of `report_in`. At most `workers` threads share the lines of an order, each of them 16,384 lines or more.
-pub fn report_shared<R: Threads + Sync>(
+pub fn report_shared<R: Threads + Sync, O: Ownership + Sync>(
     rt: &R,
     room: Vec<u8>,
-    index: &Index<'_>,
+    index: &Index<'_, O>,
     tally: &Tally,
     order: Option<&[u32]>,
     workers: u32,

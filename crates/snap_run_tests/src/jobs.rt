@@ -1,5 +1,5 @@
 //! The jobs that words ask for, and the files that they name.
-use snap_core::Limit;
+use snap_core::{Limit, Writers};
 use snap_options::Scheme;
 use snap_words::{Form, Job, Shrunk, job_of};
 use std::alloc::{AllocError, Global};
@@ -103,6 +103,13 @@ const LINES_WITH_FILES: &[(&str, &[&str])] = &[
     ("snapjudge shrink --events 1048576 a.csv", &["a.csv"]),
     ("snapjudge explain --events 1048576 --draw -", &["-"]),
     ("snapjudge draw a.csv --text --events 1048576", &["a.csv"]),
+    ("snapjudge check --writers many a.csv", &["a.csv"]),
+    ("snapjudge check --writers=one", &[]),
+    ("snapjudge shrink a.csv --writers many", &["a.csv"]),
+    ("snapjudge explain --writers many --draw -", &["-"]),
+    ("snapjudge draw --svg --writers many", &[]),
+    ("snapjudge stats --writers many a.csv -", &["a.csv", "-"]),
+    ("snapjudge stats --writers one --events 1048576", &[]),
 ];
 
 // The colours that the flags of a line name.
@@ -136,15 +143,33 @@ fn events_named(line: &str) -> usize {
     }
 }
 
-// Whether a job that reads one history draws, and has a limit of events, as the words of its line say.
+// The number of writers that a line names.
+fn writers_named(line: &str) -> Writers {
+    if line.contains(" --writers many") {
+        Writers::Many
+    } else {
+        Writers::One
+    }
+}
+
+// Whether a limit is that which the words of a line name.
+fn is_limit(line: &str, limit: Limit) -> bool {
+    limit.events() == events_named(line) && limit.writers() == writers_named(line)
+}
+
+// Whether a job that reads one history draws, and has a limit, as the words of its line say.
 fn is_drawn(line: &str, drawn: bool, limit: Limit) -> bool {
-    drawn == line.contains(" --draw") && limit.events() == events_named(line)
+    drawn == line.contains(" --draw") && is_limit(line, limit)
 }
 
 // Whether a job is that of the command in its line.
 fn is_its_command(job: &Job, line: &str) -> bool {
     match job {
-        Job::Check { .. } => line.contains(" check") && !line.contains(" --follow"),
+        Job::Check { limit, .. } => {
+            line.contains(" check")
+                && !line.contains(" --follow")
+                && limit.writers() == writers_named(line)
+        }
         Job::Follow { .. } => line.contains(" check") && line.contains(" --follow"),
         Job::Shrink { shrunk, limit, .. } => {
             line.contains(" shrink")
@@ -164,14 +189,10 @@ fn is_its_command(job: &Job, line: &str) -> bool {
                 && (*faults == 1000) == line.contains(" --faults")
         }
         Job::Draw { form, limit, .. } => {
-            line.contains(" draw")
-                && *form == form_named(line)
-                && limit.events() == events_named(line)
+            line.contains(" draw") && *form == form_named(line) && is_limit(line, *limit)
         }
         Job::Stats { json, limit, .. } => {
-            line.contains(" stats")
-                && *json == line.contains("json")
-                && limit.events() == events_named(line)
+            line.contains(" stats") && *json == line.contains("json") && is_limit(line, *limit)
         }
         Job::Record { .. } => false,
     }

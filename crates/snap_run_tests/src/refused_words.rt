@@ -40,6 +40,11 @@ const OTHER_LINES: &[&str] = &[
     "snapjudge record --stamped --rounds 3 --judge",
     "snapjudge record --stamped=yes",
     "snapjudge check --stamped",
+    "snapjudge check --writers",
+    "snapjudge check --writers all",
+    "snapjudge explain --writers",
+    "snapjudge draw --writers one --writers many",
+    "snapjudge record --writers many",
     "snapjudge check --scan",
     "snapjudge check --views",
     "snapjudge check --views 32769",
@@ -291,6 +296,22 @@ const TOGETHER: &[(&str, &str)] = &[
     (
         "snapjudge check --workers=2 --follow",
         "error: the argument '--follow' cannot be used with '--workers <W>'\n",
+    ),
+    (
+        "snapjudge check --follow --writers one",
+        "error: the argument '--follow' cannot be used with '--writers <WRITERS>'\n",
+    ),
+    (
+        "snapjudge check --writers two --follow",
+        "error: invalid value for '--writers <WRITERS>'\n  [possible values: one, many]\n\nFor more information, try '--help'.\n",
+    ),
+    (
+        "snapjudge stats --writers Many",
+        "error: invalid value for '--writers <WRITERS>'\n  [possible values: one, many]\n\nFor more information, try '--help'.\n",
+    ),
+    (
+        "snapjudge shrink --map --draw --writers 2",
+        "error: invalid value for '--writers <WRITERS>'\n  [possible values: one, many]\n\nFor more information, try '--help'.\n",
     ),
     (
         "snapjudge check --follow --color auto",

@@ -6,8 +6,9 @@ use Rattle.std.proofs.lemmas.List.{length-map}
 use Rattle.std.proofs.lemmas.List.FromFn.{get_or-range_with_len, length-range_with_len}
 use Rattle.snap_core.specs.declared.event.Event.{Event}
 use Rattle.snap_core.specs.Calls.{Call, call_numbered, calls_of, nobody}
-use Rattle.snap_core.specs.Events.{IsBoundedHistory}
-use Rattle.snap_core.specs.Orders.{IsAtomic}
+use Rattle.snap_core.specs.Bounded.{IsBoundedOrdered}
+use Rattle.snap_core.specs.declared.writers.Writers.{Writers}
+use Rattle.snap_theory.specs.Versions.{IsAtomicBy}
 use Rattle.snap_index.proofs.IndexedCalls.{mapped_some}
 use Rattle.snap_theory.specs.FaultWitnesses.{fault_witness}
 use Rattle.snap_theory.specs.First.{first_fault}
@@ -19,7 +20,7 @@ use Rattle.snap_runs.specs.Cutting.{AreOfWitness}
 use Rattle.snap_runs.specs.Mapping.{AreOfFault, AreSources}
 
 -- the numbers that are kept of a history, and what is left of it, are those of its first fault
-pub witness_numbers : (es : List Event) (left : List Event) (numbers : List ℕ) → IsBoundedHistory es → Some numbers ≡ option_map (numbers_kept es) (first_fault (calls_of es)) →
+pub witness_numbers : (es : List Event) (left : List Event) (numbers : List ℕ) → IsBoundedOrdered es → Some numbers ≡ option_map (numbers_kept es) (first_fault (calls_of es)) →
     Some left ≡ option_map (fault_witness es) (first_fault (calls_of es)) → AreOfWitness es left numbers
 witness_numbers es left numbers h kept first =
     let m = mapped_some (numbers_kept es) (first_fault (calls_of es)) numbers (sym kept) in
@@ -39,8 +40,8 @@ witness_numbers es left numbers h kept first =
 numbers_are : (es left : List Event) (numbers : List ℕ) → (w : AreOfWitness es left numbers) → numbers ≡ numbers_kept es w.of_fault.fault
 numbers_are es left numbers w = w.are ∙ ap (map (λ (c : Call). c.number)) w.of_fault.kept
 
-pub witness_sources : (es left : List Event) (numbers : List ℕ) → AreOfWitness es left numbers → AreSources es left (map (call_numbered (calls_of es)) numbers)
-witness_sources es left numbers w =
+pub witness_sources : (writers : Writers) (es left : List Event) (numbers : List ℕ) → AreOfWitness es left numbers → AreSources writers es left (map (call_numbered (calls_of es)) numbers)
+witness_sources writers es left numbers w =
     let same : w.sources ≡ map (call_numbered (calls_of es)) numbers =
     w.of_fault.kept ∙ sym (kept_numbered es w.of_fault.fault) ∙ sym (ap (map (call_numbered (calls_of es))) (numbers_are es left numbers w)) in
     inr (subst (AreOfFault es left) same w.of_fault)
@@ -62,8 +63,8 @@ all_from (x ∷ xs) f a h =
     let rest = all_from xs f (a + 1) (λ i l. let next : (a + 1) + i ≡ a + suc i = omega arith in ap f next ∙ h (suc i) (omega (arith, l))) in
     ap (λ z. z ∷ map f (range_with_len (a + 1) (length xs))) head ∙ ap (λ z. x ∷ z) rest
 
-pub whole_sources : (es left : List Event) (numbers : List ℕ) → IsAtomic (calls_of es) → left ≡ es → numbers ≡ range_with_len 0 (length (calls_of es)) → AreSources es left (map (call_numbered (calls_of es)) numbers)
-whole_sources es left numbers atomic same are =
+pub whole_sources : (writers : Writers) (es left : List Event) (numbers : List ℕ) → IsAtomicBy writers (calls_of es) → left ≡ es → numbers ≡ range_with_len 0 (length (calls_of es)) → AreSources writers es left (map (call_numbered (calls_of es)) numbers)
+whole_sources writers es left numbers atomic same are =
     inl (record {
       atomic = atomic;
       whole = same;

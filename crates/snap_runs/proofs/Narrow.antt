@@ -1,11 +1,12 @@
 -- A view of a recording lists at most one entry for each desk, so the recording's text is short.
 use Rattle.std.proofs.Common.{◌≡◌, ◌≤◌, ℕ, List, [], ◌∷◌, length, refl, inl, inr, arith}
+use Rattle.snap_core.specs.declared.limit.Limit.{Limit}
 use Rattle.std.specs.List.{All}
 use Rattle.std.proofs.lemmas.List.Elements.{All-cons, All-nil}
 use Rattle.snap_core.specs.declared.entry.Entry.{Entry}
 use Rattle.snap_core.specs.declared.event.Event.{Event}
 use Rattle.snap_core.specs.declared.event.Event.TheVariants.{BeginUpdate, BeginView, EndUpdate, EndView}
-use Rattle.snap_core.specs.Events.{IsBoundedHistory}
+use Rattle.snap_core.specs.Bounded.{IsBoundedOrdered}
 use Rattle.snap_format.specs.Laws.{ListsAtMost}
 use Rattle.snap_format.specs.Layout.{history_text}
 use Rattle.snap_format.specs.Texts.{bytes_within}
@@ -26,7 +27,7 @@ all_list n (x ∷ xs) h = All-cons (ListsAtMost n) x xs (one x (λ p es e. h p e
     one (EndView p es) g = g p es refl
 
 -- a board has at most eight desks
-pub recording_short : (limit : ℕ) (scripts : List (List Step)) (events : List Event) (stamps : List ℕ) → 1 ≤ limit → IsBoundedHistory events → length events ≤ limit → length scripts ≤ 8 → AreStamped scripts events stamps →
+pub recording_short : (limit : Limit) (scripts : List (List Step)) (events : List Event) (stamps : List ℕ) → IsBoundedOrdered events → length events ≤ limit.events → length scripts ≤ 8 → AreStamped scripts events stamps →
     length (history_text events) ≤ bytes_within limit
-recording_short limit scripts events stamps some k short few s =
-    narrow_text_short limit events some k short (all_list 36 events (λ p es m. let l = shows_few scripts events stamps s p es m in omega arith))
+recording_short limit scripts events stamps k short few s =
+    narrow_text_short limit events k short (all_list 36 events (λ p es m. let l = shows_few scripts events stamps s p es m in omega arith))

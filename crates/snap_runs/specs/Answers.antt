@@ -1,5 +1,7 @@
 -- What the program answers to a question about a text.
+use Rattle.snap_core.specs.declared.writers.Writers.{Writers}
 use Rattle.std.specs.Prelude.{◌≡◌, ◌⊎◌, ⊤, ℕ, List, Option, Some, None}
+use Rattle.snap_core.specs.declared.limit.Limit.{Limit}
 use Rattle.snap_core.specs.declared.event.Event.{Event}
 use Rattle.snap_text.specs.declared.fault.TextFault.{TextFault}
 use Rattle.snap_format.specs.Records.{HaveRecords}
@@ -33,20 +35,20 @@ abbrev pub IsCertain : (Status → List ℕ → Type 0) → Option Status → Li
 IsCertain Is (Some status) out = Is status out
 IsCertain Is None out = ⊥
 
--- the status of a history and what is written of it, by the records of its events
-abbrev pub IsAnswerOf : Question → List Event → List ℕ → Option Status → List ℕ → Type 0
-IsAnswerOf (Explanation detail) events records = IsCertain (ExplainsHistory detail events records)
-IsAnswerOf (ExplanationDrawn listed) events records = AnswersHistory usual_lines 0 (Whole listed) is_lines events records
-IsAnswerOf (Object named) events records = IsCertain (TellsHistory (object_name named.name.now) named.views events records)
-IsAnswerOf (TestCase named) events records = IsHistoryCase named.name.now named.views events records
-IsAnswerOf Witness events records = IsCertain (ShrinksHistory events)
-IsAnswerOf WitnessDrawn events records = IsCertain (DrawsWitness events)
-IsAnswerOf WitnessMap events records = IsCertain (MapsHistory events records)
-IsAnswerOf (Page scheme window) events records = AnswersHistory window MOST_CALLS Sentences is_page events records
-IsAnswerOf (Svg scheme window) events records = AnswersHistory window 0 Sentences is_svg events records
-IsAnswerOf (Lines window) events records = AnswersHistory window 0 Sentences is_lines events records
-IsAnswerOf (Counts None) events records = IsCertain (CountsHistory None events)
-IsAnswerOf (Counts (Some name)) events records = IsCertain (CountsHistory (Some name.now) events)
+-- the status of a history whose components have so many writers, and what is written of it, by the records of its events
+abbrev pub IsAnswerOf : Question → Writers → List Event → List ℕ → Option Status → List ℕ → Type 0
+IsAnswerOf (Explanation detail) writers events records = IsCertain (ExplainsHistory detail writers events records)
+IsAnswerOf (ExplanationDrawn listed) writers events records = AnswersHistory usual_lines 0 (Whole listed) is_lines writers events records
+IsAnswerOf (Object named) writers events records = IsCertain (TellsHistory (object_name named.name.now) named.views writers events records)
+IsAnswerOf (TestCase named) writers events records = IsHistoryCase named.name.now named.views writers events records
+IsAnswerOf Witness writers events records = IsCertain (ShrinksHistory writers events)
+IsAnswerOf WitnessDrawn writers events records = IsCertain (DrawsWitness writers events)
+IsAnswerOf WitnessMap writers events records = IsCertain (MapsHistory writers events records)
+IsAnswerOf (Page scheme window) writers events records = AnswersHistory window MOST_CALLS Sentences is_page writers events records
+IsAnswerOf (Svg scheme window) writers events records = AnswersHistory window 0 Sentences is_svg writers events records
+IsAnswerOf (Lines window) writers events records = AnswersHistory window 0 Sentences is_lines writers events records
+IsAnswerOf (Counts None) writers events records = IsCertain (CountsHistory None events)
+IsAnswerOf (Counts (Some name)) writers events records = IsCertain (CountsHistory (Some name.now) events)
 
 -- the object of a text that is not a history
 abbrev pub IsRefusedObject : List ℕ → ℕ → TextFault → List ℕ → Type 0
@@ -56,8 +58,8 @@ IsRefusedObject name place fault out = IsLineOf (refusal_json (object_name name)
 abbrev pub IsRefusalLine : ℕ → TextFault → List ℕ → Type 0
 IsRefusalLine place fault out = out ≡ line_text (refusal_line place fault)
 
--- what is written of a text that is not a history, by its first fault and the place of that, if a history may have up to limit events
-abbrev pub IsRefusalOf : Question → ℕ → List ℕ → ℕ → TextFault → List ℕ → Type 0
+-- what is written of a text that is not a history, by its first fault and the place of that, within a limit
+abbrev pub IsRefusalOf : Question → Limit → List ℕ → ℕ → TextFault → List ℕ → Type 0
 IsRefusalOf (Explanation detail) limit text place fault = IsRefusalExplanation limit text place fault
 IsRefusalOf (ExplanationDrawn listed) limit text place fault = IsRefusalExplanation limit text place fault
 IsRefusalOf (Object named) limit text place fault = IsRefusedObject named.name.now place fault
@@ -71,16 +73,16 @@ IsRefusalOf (Lines window) limit text place fault = IsRefusalExplanation limit t
 IsRefusalOf (Counts None) limit text place fault = IsRefusalLine place fault
 IsRefusalOf (Counts (Some name)) limit text place fault = IsRefusedObject name.now place fault
 
--- The answer to a text that is a history, if a history may have up to limit events. `Is` says what is answered to the events of a
--- history, by their records.
-pub record IsOfHistory (Is : List Event → List ℕ → Option Status → List ℕ → Type 0) (limit : ℕ) (text : List ℕ) (answer : Option Status) (out : List ℕ) : Type 0 where
+-- The answer to a text that is a history within a limit. `Is` says what is answered to the events of a history, by their records and
+-- by how many processes may write a component.
+pub record IsOfHistory (Is : Writers → List Event → List ℕ → Option Status → List ℕ → Type 0) (limit : Limit) (text : List ℕ) (answer : Option Status) (out : List ℕ) : Type 0 where
   pub events : List Event
   pub records : List ℕ
   pub history : HaveRecords limit text events records
-  pub answered : Is events records answer out
+  pub answered : Is limit.writers events records answer out
 
 -- A text with a fault is refused. `Is` says what is written of a text by its first fault and the place of that.
-pub record IsOfRefusal (Is : ℕ → List ℕ → ℕ → TextFault → List ℕ → Type 0) (limit : ℕ) (text : List ℕ) (answer : Option Status) (out : List ℕ) : Type 0 where
+pub record IsOfRefusal (Is : Limit → List ℕ → ℕ → TextFault → List ℕ → Type 0) (limit : Limit) (text : List ℕ) (answer : Option Status) (out : List ℕ) : Type 0 where
   pub place : ℕ
   pub fault : TextFault
   pub first : HasFault limit text place fault
@@ -88,26 +90,26 @@ pub record IsOfRefusal (Is : ℕ → List ℕ → ℕ → TextFault → List ℕ
   pub said : Is limit text place fault out
 
 -- the status of a text and what is written of it
-abbrev pub AnswersBy : (List Event → List ℕ → Option Status → List ℕ → Type 0) → (ℕ → List ℕ → ℕ → TextFault → List ℕ → Type 0) → ℕ → List ℕ → Option Status → List ℕ → Type 0
+abbrev pub AnswersBy : (Writers → List Event → List ℕ → Option Status → List ℕ → Type 0) → (Limit → List ℕ → ℕ → TextFault → List ℕ → Type 0) → Limit → List ℕ → Option Status → List ℕ → Type 0
 AnswersBy OfHistory OfRefusal limit text answer out = IsOfRefusal OfRefusal limit text answer out ⊎ IsOfHistory OfHistory limit text answer out
 
 -- the answer to a question about a text
-abbrev pub IsAnswerTo : Question → ℕ → List ℕ → Option Status → List ℕ → Type 0
+abbrev pub IsAnswerTo : Question → Limit → List ℕ → Option Status → List ℕ → Type 0
 IsAnswerTo question = AnswersBy (IsAnswerOf question) (IsRefusalOf question)
 
 -- the answers to questions with a name
 
 -- the object of a text with a name, whose history needs this number of completed views
-abbrev pub IsObject : List ℕ → ℕ → ℕ → List ℕ → Option Status → List ℕ → Type 0
-IsObject name views = AnswersBy (λ events records. IsCertain (TellsHistory (object_name name) views events records)) (λ limit text. IsRefusedObject name)
+abbrev pub IsObject : List ℕ → ℕ → Limit → List ℕ → Option Status → List ℕ → Type 0
+IsObject name views = AnswersBy (λ writers events records. IsCertain (TellsHistory (object_name name) views writers events records)) (λ limit text. IsRefusedObject name)
 
 -- its test case
-abbrev pub IsTestCase : List ℕ → ℕ → ℕ → List ℕ → Option Status → List ℕ → Type 0
+abbrev pub IsTestCase : List ℕ → ℕ → Limit → List ℕ → Option Status → List ℕ → Type 0
 IsTestCase name views = AnswersBy (IsHistoryCase name views) (IsRefusalCase name)
 
 -- what its history has shown, as an object
-abbrev pub IsCountsObject : List ℕ → ℕ → List ℕ → Option Status → List ℕ → Type 0
-IsCountsObject name = AnswersBy (λ events records. IsCertain (CountsHistory (Some name) events)) (λ limit text. IsRefusedObject name)
+abbrev pub IsCountsObject : List ℕ → Limit → List ℕ → Option Status → List ℕ → Type 0
+IsCountsObject name = AnswersBy (λ writers events records. IsCertain (CountsHistory (Some name) events)) (λ limit text. IsRefusedObject name)
 
 -- The questions whose answer has a status, whatever the history is. A window may name a call that the history lacks, and a test case
 -- may need more completed views than the history has.

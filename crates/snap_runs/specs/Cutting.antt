@@ -1,11 +1,12 @@
 -- The numbers that the calls of a witness have in the history that it is cut from.
+use Rattle.snap_theory.specs.Versions.{IsAtomicBy, IsAtomicInOrder}
+use Rattle.snap_core.specs.declared.writers.Writers.{Writers}
 use Rattle.std.specs.Prelude.{◌≡◌, ◌⊎◌, ℕ, List, [], Option, Some, None, map}
 use Rattle.std.specs.declared.alloc.Global.{Global}
 use Rattle.std.specs.declared.vec.Vec.{Vec}
 use Rattle.snap_core.specs.Limited.{LimitedEvents}
 use Rattle.snap_core.specs.declared.event.Event.{Event}
 use Rattle.snap_core.specs.Calls.{Call, calls_of}
-use Rattle.snap_core.specs.Orders.{IsAtomic}
 use Rattle.snap_runs.specs.Mapping.{AreOfFault}
 use Rattle.snap_runs.specs.Shrinking.{IsWitnessOf}
 
@@ -15,11 +16,11 @@ pub record AreOfWitness (events left : List Event) (numbers : List ℕ) : Type 0
   pub of_fault : AreOfFault events left sources
   pub are : numbers ≡ map (λ (c : Call). c.number) sources
 
--- the witness of a history with these numbers, exactly if the history is not atomic
+-- the witness of a history with these numbers, exactly if the history is not atomic in order
 abbrev pub IsNumbered : List Event → Option (LimitedEvents × Vec ℕ Global) → Type 0
-IsNumbered events (Some found) = (IsAtomic (calls_of events) → ⊥) × IsWitnessOf events found.0.events × AreOfWitness events found.0.events found.1.items
-IsNumbered events None = IsAtomic (calls_of events)
+IsNumbered events (Some found) = (IsAtomicInOrder (calls_of events) → ⊥) × IsWitnessOf events found.0.events × AreOfWitness events found.0.events found.1.items
+IsNumbered events None = IsAtomicInOrder (calls_of events)
 
 -- the numbers that stand beside those of the calls that are left. An atomic history is left whole, so there are none
-abbrev pub AreBeside : List Event → List Event → List ℕ → Type 0
-AreBeside events left numbers = (IsAtomic (calls_of events) × (numbers ≡ [])) ⊎ AreOfWitness events left numbers
+abbrev pub AreBeside : Writers → List Event → List Event → List ℕ → Type 0
+AreBeside writers events left numbers = (IsAtomicBy writers (calls_of events) × (numbers ≡ [])) ⊎ AreOfWitness events left numbers

@@ -1,4 +1,5 @@
 -- What is written if a history is drawn.
+use Rattle.snap_core.specs.declared.writers.Writers.{Writers}
 use Rattle.std.specs.Prelude.{◌≡◌, ℕ, true, false, List, [], length, Option, Some, None, if◌then◌else◌, map}
 use Rattle.snap_core.specs.declared.event.Event.{Event}
 use Rattle.snap_core.specs.Calls.{Call, calls_of, views_of}
@@ -55,12 +56,12 @@ pub record IsDrawing (window : Window) (held : ℕ) (says : Said) (Is : Writes) 
   pub written : Is events records sources shapes parts (order_drawn (calls_of events) (tally_of (calls_of events) (views_of (calls_of events)))) said out
 
 -- the status of a history, and its picture by the records of its events and the numbers of its calls in a run
-abbrev pub DrawsHistory : Window → ℕ → Said → Writes → List Event → List ℕ → List ℕ → Status → List ℕ → Type 0
-DrawsHistory window held says Is events records sources status out = HasStatus events status × IsDrawing window held says Is events records sources out
+abbrev pub DrawsHistory : Window → ℕ → Said → Writes → Writers → List Event → List ℕ → List ℕ → Status → List ℕ → Type 0
+DrawsHistory window held says Is writers events records sources status out = HasStatus writers events status × IsDrawing window held says Is events records sources out
 
 -- The answer to a history with the call that the window names, and its picture. Without that call there is no status and no picture. The
 -- history is made from no run.
-abbrev pub AnswersHistory : Window → ℕ → Said → Writes → List Event → List ℕ → Option Status → List ℕ → Type 0
-AnswersHistory window held says Is events records (Some status) out =
-    (has_call window.place (length (calls_of events)) ≡ true) × DrawsHistory window held says Is events records [] status out
-AnswersHistory window held says Is events records None out = (has_call window.place (length (calls_of events)) ≡ false) × (out ≡ [])
+abbrev pub AnswersHistory : Window → ℕ → Said → Writes → Writers → List Event → List ℕ → Option Status → List ℕ → Type 0
+AnswersHistory window held says Is writers events records (Some status) out =
+    (has_call window.place (length (calls_of events)) ≡ true) × DrawsHistory window held says Is writers events records [] status out
+AnswersHistory window held says Is writers events records None out = (has_call window.place (length (calls_of events)) ≡ false) × (out ≡ [])

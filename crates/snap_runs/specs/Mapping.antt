@@ -1,9 +1,10 @@
 -- The table of the calls that a witness keeps.
+use Rattle.snap_theory.specs.Versions.{IsAtomicBy}
+use Rattle.snap_core.specs.declared.writers.Writers.{Writers}
 use Rattle.std.specs.Prelude.{◌≡◌, ◌⊎◌, ◌++◌, ℕ, List, [], Option, Some, None, codes, decimal, length}
 use Rattle.std.specs.List.{flat_map, range_with_len, zip}
 use Rattle.snap_core.specs.declared.event.Event.{Event}
 use Rattle.snap_core.specs.Calls.{Call, calls_of}
-use Rattle.snap_core.specs.Orders.{IsAtomic}
 use Rattle.snap_theory.specs.FaultWitnesses.{Fault, fault_calls, fault_updates}
 use Rattle.snap_theory.specs.First.{first_fault}
 use Rattle.snap_theory.specs.Kept.{is_place_of}
@@ -41,19 +42,19 @@ pub record AreOfFault (events left : List Event) (sources : List Call) : Type 0 
   pub same : calls_of left ≡ as_kept (is_place_of (fault_calls events fault)) (numbers_of (fault_updates fault)) 0 sources
 
 -- the calls of an atomic history are made from themselves
-pub record AreThemselves (events left : List Event) (sources : List Call) : Type 0 where
-  pub atomic : IsAtomic (calls_of events)
+pub record AreThemselves (writers : Writers) (events left : List Event) (sources : List Call) : Type 0 where
+  pub atomic : IsAtomicBy writers (calls_of events)
   pub whole : left ≡ events
   pub all : sources ≡ calls_of events
 
-abbrev pub AreSources : List Event → List Event → List Call → Type 0
-AreSources events left sources = AreThemselves events left sources ⊎ AreOfFault events left sources
+abbrev pub AreSources : Writers → List Event → List Event → List Call → Type 0
+AreSources writers events left sources = AreThemselves writers events left sources ⊎ AreOfFault events left sources
 
 -- the status of a history, and the table of the calls of what it is cut to. The records of the history are given, and those of what it
 -- is cut to follow its header
-pub record MapsHistory (events : List Event) (records : List ℕ) (status : Status) (out : List ℕ) : Type 0 where
+pub record MapsHistory (writers : Writers) (events : List Event) (records : List ℕ) (status : Status) (out : List ℕ) : Type 0 where
   pub left : List Event
   pub sources : List Call
-  pub cut : IsCutTo events status left
-  pub are : AreSources events left sources
+  pub cut : IsCutTo writers events status left
+  pub are : AreSources writers events left sources
   pub writes : out ≡ map_text (range_with_len 2 (length left)) records (calls_of left) sources

@@ -1,11 +1,13 @@
 -- What a recording answers, writes and counts.
+use Rattle.snap_core.specs.declared.writers.Writers.TheVariants.{One}
 use Rattle.std.specs.Prelude.{◌≡◌, ◌≤◌, ◌*◌, ◌⊎◌, ℕ, Bool, true, false, List, length, Option, Result, Ok, Err}
+use Rattle.snap_core.specs.declared.limit.Limit.{Limit}
 use Rattle.std.specs.List.Sorted.{IsStrictlyIncreasing}
 use Rattle.std.specs.Io.KnownBytes.{Keeps}
 use Rattle.snap_core.specs.declared.event.Event.{Event}
 use Rattle.snap_core.specs.Calls.{calls_of}
 use Rattle.snap_core.specs.Counting.{Rose}
-use Rattle.snap_core.specs.Events.{IsBoundedHistory}
+use Rattle.snap_core.specs.Bounded.{IsBoundedHistory}
 use Rattle.snap_core.specs.Monotone.{IsMonotone}
 use Rattle.snap_core.specs.Orders.{IsAtomic}
 use Rattle.snap_core.specs.Regular.{IsRegular}
@@ -66,7 +68,7 @@ pub record IsRecordingReport (scripts : List (List Step)) (status : Status) (out
   pub events : List Event
   pub recording : IsRecordingOf scripts events
   pub answers : (status ≡ Atomic) ⊎ (status ≡ Regular)
-  pub report : (limit : ℕ) → 1 ≤ limit → 2 * steps_in scripts ≤ limit → IsReport limit (history_text events) status out
+  pub report : (limit : Limit) → limit.writers ≡ One → 2 * steps_in scripts ≤ limit.events → IsReport limit (history_text events) status out
 
 -- the status and the text of a recording, or its status and its report if it is judged
 abbrev pub IsRecorded : Bool → List (List Step) → Status → List ℕ → Type 0

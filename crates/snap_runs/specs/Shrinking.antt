@@ -1,4 +1,6 @@
 -- What a history is cut down to.
+use Rattle.snap_theory.specs.Versions.{IsAtomicBy}
+use Rattle.snap_core.specs.declared.writers.Writers.{Writers}
 use Rattle.std.specs.Prelude.{◌≡◌, ◌≤◌, ◌↔◌, ℕ, List, length}
 use Rattle.snap_core.specs.declared.event.Event.{Event}
 use Rattle.snap_core.specs.Calls.{calls_of}
@@ -20,13 +22,13 @@ pub record IsWitnessOf (events : List Event) (witness : List Event) : Type 0 whe
   pub regular : IsRegular (calls_of witness) ↔ IsRegular (calls_of events)
 
 -- the status of a history, and what it is cut to: itself if it is atomic, and otherwise a witness
-pub record IsCutTo (events : List Event) (status : Status) (left : List Event) : Type 0 where
-  pub answers : HasStatus events status
-  pub atomic : IsAtomic (calls_of events) → left ≡ events
-  pub not_atomic : (IsAtomic (calls_of events) → ⊥) → IsWitnessOf events left
+pub record IsCutTo (writers : Writers) (events : List Event) (status : Status) (left : List Event) : Type 0 where
+  pub answers : HasStatus writers events status
+  pub atomic : IsAtomicBy writers (calls_of events) → left ≡ events
+  pub not_atomic : (IsAtomicBy writers (calls_of events) → ⊥) → IsWitnessOf events left
 
 -- the status of a history, and the text of what it is cut to
-pub record ShrinksHistory (events : List Event) (status : Status) (out : List ℕ) : Type 0 where
+pub record ShrinksHistory (writers : Writers) (events : List Event) (status : Status) (out : List ℕ) : Type 0 where
   pub left : List Event
-  pub cut : IsCutTo events status left
+  pub cut : IsCutTo writers events status left
   pub writes : out ≡ history_text left

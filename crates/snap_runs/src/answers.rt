@@ -1,5 +1,7 @@
 //! The answers to a question: that of a history, and that of a text that is not one.
 ghost use Rattle.std.specs.Prelude.{◌≡◌, IfOk, IsSome, Some, length};
+ghost use Rattle.snap_core.specs.declared.writers.Writers.{Writers};
+ghost use Rattle.snap_core.specs.Bounded.{IsHistoryBy};
 ghost use Rattle.snap_runs.specs.Answers.{IsAlwaysAnswered, IsAnswerOf, IsRefusalOf};
 
 use crate::draw::answered;
@@ -13,7 +15,7 @@ use crate::shrink::shrunk;
 use crate::stats::counted;
 use crate::test_case::{judged_case, refused_case};
 use snap_check::{Judging, Status};
-use snap_core::{History, Limit};
+use snap_core::{AnyWriters, History, Limit};
 use snap_explain::explain_refusal;
 use snap_report::refusal_text;
 use snap_text::TextFault;
@@ -32,13 +34,13 @@ pub(crate) fn answer_of<J: Judging>(
     judging: &J,
     alloc: Global,
     question: Question<'_>,
-    history: &History,
+    history: &History<AnyWriters>,
     records: &[u32],
     bytes: usize,
 ) -> Result<(Option<Status>, Vec<u8>), AllocError>
     requires ready { J.ready }
     requires each { length records.now ≡ length history.now.events }
-    ensures answer { IfOk result (λ answer. IsAnswerOf question.entry history.now.events records.now answer.0 answer.1.items) }
+    ensures answer { IfOk result (λ answer. (writers : Writers) → IsHistoryBy writers history.now.events → IsAnswerOf question.entry writers history.now.events records.now answer.0 answer.1.items) }
     ensures certain { IsAlwaysAnswered question.entry → IfOk result (λ answer. IsSome answer.0) }
 {
     match question {
@@ -81,7 +83,7 @@ pub(crate) fn refusal_of(
     fault: TextFault,
     limit: Limit,
 ) -> Result<Vec<u8>, AllocError>
-    ensures { IfOk result (λ out. IsRefusalOf question.entry limit.events text.now place fault out.items) }
+    ensures { IfOk result (λ out. IsRefusalOf question.entry limit text.now place fault out.items) }
 {
     match question {
         Question::Object(named) => refused_object(alloc, named.name, place, fault),

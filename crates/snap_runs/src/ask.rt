@@ -24,7 +24,7 @@ pub fn answer_to<J: Judging, R: Read>(
     limit: Limit,
 ) -> Result<(Option<Status>, Vec<u8>), RunFault>
     requires ready { J.ready }
-    ensures answer { JudgesBy (IsAnswerTo question.entry limit.events) (R.remaining (inner_of reader.old)) result }
+    ensures answer { JudgesBy (IsAnswerTo question.entry limit) (R.remaining (inner_of reader.old)) result }
     ensures certain { IsAlwaysAnswered question.entry → IfOk result (λ answer. IsSome answer.0) }
     ensures counts { JudgeCounts (failures_in reader.old) (failures_in reader.new) result }
 {
@@ -70,7 +70,7 @@ pub fn run<Rt: Threads + Sync, R: Read, W: Write>(
     writer: &mut Counted<W>,
     limit: Limit,
 ) -> Result<Option<Status>, RunFault>
-    ensures wrote { WroteBy (IsAnswerTo question.entry limit.events) (R.remaining (inner_of reader.old)) (W.contents (inner_of writer.old)) (W.contents (inner_of writer.new)) result }
+    ensures wrote { WroteBy (IsAnswerTo question.entry limit) (R.remaining (inner_of reader.old)) (W.contents (inner_of writer.old)) (W.contents (inner_of writer.new)) result }
     ensures certain { IsAlwaysAnswered question.entry → IfOk result (λ status. IsSome status) }
     ensures counts { RunCounts (failures_in reader.old) (failures_in reader.new) (failures_in writer.old) (failures_in writer.new) result }
 {

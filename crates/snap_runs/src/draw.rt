@@ -1,6 +1,8 @@
 //! The picture of a history.
 ghost use Rattle.std.specs.Prelude.{◌≡◌, [], IfOk, IsSome, is_some, length, map};
 ghost use Rattle.std.specs.Option.{ForSome, option_map_or};
+ghost use Rattle.snap_core.specs.declared.writers.Writers.{Writers};
+ghost use Rattle.snap_core.specs.Bounded.{IsHistoryBy};
 ghost use Rattle.snap_core.specs.Calls.{calls_of, views_of};
 ghost use Rattle.snap_conditions.specs.Tally.{tally_of};
 ghost use Rattle.snap_theory.specs.Levels.{printed_order};
@@ -11,7 +13,7 @@ ghost use Rattle.snap_draw.specs.declared.window.Place.TheVariants.{Faults};
 use crate::markup::{Markup, Said};
 use snap_check::{Judging, Status, status_of};
 use snap_conditions::Tally;
-use snap_core::History;
+use snap_core::{AnyWriters, History};
 use snap_draw::{Numbering, Picture, has_call, parts_of, shapes_of};
 use snap_explain::{explain, sentences};
 use snap_index::Index;
@@ -30,7 +32,7 @@ fn numbers_of<'x>(order: Option<&'x [u32]>) -> &'x [u32]
 // What a picture has of the explanation of a history. The numbers of the printed order are given exactly if the tally has no fault.
 fn said_of(
     alloc: Global,
-    index: &Index<'_>,
+    index: &Index<'_, AnyWriters>,
     tally: &Tally,
     records: &[u32],
     order: Option<&[u32]>,
@@ -53,7 +55,7 @@ fn said_of(
 fn picture_of<'x, M: Markup>(
     alloc: Global,
     markup: &M,
-    index: &'x Index<'_>,
+    index: &'x Index<'_, AnyWriters>,
     tally: &Tally,
     numbering: Numbering<'x>,
     order: Option<&'x [u32]>,
@@ -88,13 +90,13 @@ fn drawn_by<J: Judging, M: Markup>(
     judging: &J,
     alloc: Global,
     markup: &M,
-    index: &Index<'_>,
+    index: &Index<'_, AnyWriters>,
     numbering: Numbering<'_>,
     bytes: usize,
 ) -> Result<(Status, Vec<u8>), AllocError>
     requires ready { J.ready }
     requires each { length numbering.records.now ≡ length index.now }
-    ensures { IfOk result (λ answer. DrawsHistory (M.draws markup.now) M.holds (M.says markup.now) M.writes index.now numbering.entry.records.now numbering.entry.sources.now answer.0 answer.1.items) }
+    ensures { IfOk result (λ answer. (writers : Writers) → IsHistoryBy writers index.now → DrawsHistory (M.draws markup.now) M.holds (M.says markup.now) M.writes writers index.now numbering.entry.records.now numbering.entry.sources.now answer.0 answer.1.items) }
 {
     let (tally, chain) = judging.tally_and_chain(alloc, index, bytes)?;
     let order = judging.order(alloc, index, &tally, chain, bytes)?;
@@ -107,13 +109,13 @@ pub(crate) fn drawn<J: Judging, M: Markup>(
     judging: &J,
     alloc: Global,
     markup: &M,
-    history: &History,
+    history: &History<AnyWriters>,
     numbering: Numbering<'_>,
     bytes: usize,
 ) -> Result<(Status, Vec<u8>), AllocError>
     requires ready { J.ready }
     requires each { length numbering.records.now ≡ length history.now.events }
-    ensures { IfOk result (λ answer. DrawsHistory (M.draws markup.now) M.holds (M.says markup.now) M.writes history.now.events numbering.entry.records.now numbering.entry.sources.now answer.0 answer.1.items) }
+    ensures { IfOk result (λ answer. (writers : Writers) → IsHistoryBy writers history.now.events → DrawsHistory (M.draws markup.now) M.holds (M.says markup.now) M.writes writers history.now.events numbering.entry.records.now numbering.entry.sources.now answer.0 answer.1.items) }
 {
     let index = Index::build(alloc, history)?;
     drawn_by(judging, alloc, markup, &index, numbering, bytes)
@@ -125,13 +127,13 @@ pub(crate) fn answered<J: Judging, M: Markup>(
     judging: &J,
     alloc: Global,
     markup: &M,
-    history: &History,
+    history: &History<AnyWriters>,
     records: &[u32],
     bytes: usize,
 ) -> Result<(Option<Status>, Vec<u8>), AllocError>
     requires ready { J.ready }
     requires each { length records.now ≡ length history.now.events }
-    ensures answer { IfOk result (λ answer. AnswersHistory (M.draws markup.now) M.holds (M.says markup.now) M.writes history.now.events records.now answer.0 answer.1.items) }
+    ensures answer { IfOk result (λ answer. (writers : Writers) → IsHistoryBy writers history.now.events → AnswersHistory (M.draws markup.now) M.holds (M.says markup.now) M.writes writers history.now.events records.now answer.0 answer.1.items) }
     ensures given { (M.draws markup.now).place ≡ Faults → IfOk result (λ answer. IsSome answer.0) }
 {
     let index = Index::build(alloc, history)?;

@@ -1,9 +1,11 @@
 //! The explanation of a history.
 ghost use Rattle.std.specs.Prelude.{◌≡◌, IfOk, length};
+ghost use Rattle.snap_core.specs.declared.writers.Writers.{Writers};
+ghost use Rattle.snap_core.specs.Bounded.{IsHistoryBy};
 ghost use Rattle.snap_runs.specs.Explaining.{ExplainsHistory};
 
 use snap_check::{Judging, Status, status_of};
-use snap_core::History;
+use snap_core::{AnyWriters, History};
 use snap_explain::{Detail, explain_faults};
 use snap_index::Index;
 use std::alloc::{AllocError, Global};
@@ -13,13 +15,13 @@ fn explained_by<J: Judging>(
     judging: &J,
     alloc: Global,
     detail: Detail,
-    index: &Index<'_>,
+    index: &Index<'_, AnyWriters>,
     records: &[u32],
     bytes: usize,
 ) -> Result<(Status, Vec<u8>), AllocError>
     requires ready { J.ready }
     requires each { length records.now ≡ length index.now }
-    ensures { IfOk result (λ answer. ExplainsHistory detail index.now records.now answer.0 answer.1.items) }
+    ensures { IfOk result (λ answer. (writers : Writers) → IsHistoryBy writers index.now → ExplainsHistory detail writers index.now records.now answer.0 answer.1.items) }
 {
     let (tally, chain) = judging.tally_and_chain(alloc, index, bytes)?;
     let order = judging.order(alloc, index, &tally, chain, bytes)?;
@@ -32,13 +34,13 @@ pub(crate) fn explained<J: Judging>(
     judging: &J,
     alloc: Global,
     detail: Detail,
-    history: &History,
+    history: &History<AnyWriters>,
     records: &[u32],
     bytes: usize,
 ) -> Result<(Status, Vec<u8>), AllocError>
     requires ready { J.ready }
     requires each { length records.now ≡ length history.now.events }
-    ensures { IfOk result (λ answer. ExplainsHistory detail history.now.events records.now answer.0 answer.1.items) }
+    ensures { IfOk result (λ answer. (writers : Writers) → IsHistoryBy writers history.now.events → ExplainsHistory detail writers history.now.events records.now answer.0 answer.1.items) }
 {
     let index = Index::build(alloc, history)?;
     explained_by(judging, alloc, detail, &index, records, bytes)

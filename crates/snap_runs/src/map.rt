@@ -1,8 +1,10 @@
 //! Which calls of a history its witness keeps.
 ghost use Rattle.std.specs.Prelude.{◌≡◌, IfOk, length};
 ghost use Rattle.std.specs.List.{range_with_len};
+ghost use Rattle.snap_core.specs.declared.writers.Writers.{Writers};
+ghost use Rattle.snap_core.specs.Bounded.{IsHistoryBy};
 ghost use Rattle.snap_core.specs.Calls.{calls_of};
-ghost use Rattle.snap_core.specs.Orders.{IsAtomic};
+ghost use Rattle.snap_theory.specs.Versions.{IsAtomicInOrder};
 ghost use Rattle.snap_check.specs.declared.status.Status.{Status as SpecStatus};
 ghost use Rattle.snap_check.specs.Verdicts.{HasStatus};
 ghost use Rattle.snap_runs.specs.Cutting.{AreOfWitness};
@@ -12,7 +14,7 @@ ghost use Rattle.snap_runs.specs.Shrinking.{IsWitnessOf};
 use crate::cut::{numbered_witness, records_of};
 use crate::table::table_of;
 use snap_check::{Judging, Status, status_of};
-use snap_core::History;
+use snap_core::{AnyWriters, History};
 use snap_index::Index;
 use std::alloc::{AllocError, Global};
 
@@ -26,14 +28,14 @@ fn all_numbers(alloc: Global, count: u32) -> Result<Vec<u32>, AllocError>
 // The table of a history that is atomic, by the records of its events. It is left whole.
 fn whole_map(
     alloc: Global,
-    left: &History,
-    index: &Index<'_>,
+    left: &History<AnyWriters>,
+    index: &Index<'_, AnyWriters>,
     records: &[u32],
 ) -> Result<Vec<u8>, AllocError>
     requires left { left.now.events ≡ index.now }
     requires each { length records.now ≡ length index.now }
-    requires atomic { IsAtomic (calls_of index.now) }
-    ensures { IfOk result (λ out. (status : SpecStatus) → HasStatus index.now status → MapsHistory index.now records.now status out.items) }
+    requires atomic { IsAtomicInOrder (calls_of index.now) }
+    ensures { IfOk result (λ out. (writers : Writers) (status : SpecStatus) → IsHistoryBy writers index.now → HasStatus writers index.now status → MapsHistory writers index.now records.now status out.items) }
 {
     // what is known of the history that the index is of
     let _events = index.event_count();
@@ -46,16 +48,16 @@ fn whole_map(
 // The table of the witness of a history, whose calls have these numbers in the history.
 fn witness_map(
     alloc: Global,
-    left: &History,
+    left: &History<AnyWriters>,
     numbers: &[u32],
-    index: &Index<'_>,
+    index: &Index<'_, AnyWriters>,
     records: &[u32],
 ) -> Result<Vec<u8>, AllocError>
     requires each { length records.now ≡ length index.now }
-    requires not_atomic { IsAtomic (calls_of index.now) → ⊥ }
+    requires not_atomic { IsAtomicInOrder (calls_of index.now) → ⊥ }
     requires witness { IsWitnessOf index.now left.now.events }
     requires numbers { AreOfWitness index.now left.now.events numbers.now }
-    ensures { IfOk result (λ out. (status : SpecStatus) → HasStatus index.now status → MapsHistory index.now records.now status out.items) }
+    ensures { IfOk result (λ out. (writers : Writers) (status : SpecStatus) → IsHistoryBy writers index.now → HasStatus writers index.now status → MapsHistory writers index.now records.now status out.items) }
 {
     // what is known of the history that the index is of
     let _events = index.event_count();
@@ -68,13 +70,13 @@ fn witness_map(
 pub(crate) fn mapped<J: Judging>(
     judging: &J,
     alloc: Global,
-    history: &History,
+    history: &History<AnyWriters>,
     records: &[u32],
     bytes: usize,
 ) -> Result<(Status, Vec<u8>), AllocError>
     requires ready { J.ready }
     requires each { length records.now ≡ length history.now.events }
-    ensures { IfOk result (λ answer. MapsHistory history.now.events records.now answer.0 answer.1.items) }
+    ensures { IfOk result (λ answer. (writers : Writers) → IsHistoryBy writers history.now.events → MapsHistory writers history.now.events records.now answer.0 answer.1.items) }
 {
     let index = Index::build(alloc, history)?;
     let (tally, _chain) = judging.tally_and_chain(alloc, &index, bytes)?;

@@ -9,6 +9,7 @@ ghost use Rattle.snap_runs.specs.Markups.{is_lines, is_page, is_svg};
 ghost use Rattle.snap_runs.specs.declared.markup.Said.{Said};
 ghost use Rattle.snap_runs.specs.declared.markup.Said.TheVariants.{Sentences, Whole};
 
+use snap_core::AnyWriters;
 use snap_draw::{Picture, Window, explained_lines, page_of, svg_of, text_lines};
 use snap_explain::Entries;
 use snap_options::{MOST_CALLS, Scheme};
@@ -51,7 +52,11 @@ pub(crate) trait Markup {
         ensures { result ≡ says self.now };
 
     /// The text of a picture. The error is want of memory.
-    fn text(&self, alloc: Global, picture: &Picture<'_, '_>) -> Result<Vec<u8>, AllocError>
+    fn text(
+        &self,
+        alloc: Global,
+        picture: &Picture<'_, '_, AnyWriters>,
+    ) -> Result<Vec<u8>, AllocError>
         ensures { IfOk result (λ text. writes picture.now.index.now picture.now.numbering.records.now picture.now.numbering.sources.now picture.now.shapes.now picture.now.parts.now picture.now.order.now picture.now.said.now text.items) };
 }
 
@@ -105,7 +110,11 @@ impl Markup for Svg {
         Said::Sentences
     }
 
-    fn text(&self, alloc: Global, picture: &Picture<'_, '_>) -> Result<Vec<u8>, AllocError> {
+    fn text(
+        &self,
+        alloc: Global,
+        picture: &Picture<'_, '_, AnyWriters>,
+    ) -> Result<Vec<u8>, AllocError> {
         svg_of(alloc, picture, self.scheme)
     }
 }
@@ -131,7 +140,11 @@ impl Markup for Page {
         Said::Sentences
     }
 
-    fn text(&self, alloc: Global, picture: &Picture<'_, '_>) -> Result<Vec<u8>, AllocError> {
+    fn text(
+        &self,
+        alloc: Global,
+        picture: &Picture<'_, '_, AnyWriters>,
+    ) -> Result<Vec<u8>, AllocError> {
         page_of(alloc, picture, self.scheme)
     }
 }
@@ -157,7 +170,11 @@ impl Markup for Lines {
         Said::Sentences
     }
 
-    fn text(&self, alloc: Global, picture: &Picture<'_, '_>) -> Result<Vec<u8>, AllocError> {
+    fn text(
+        &self,
+        alloc: Global,
+        picture: &Picture<'_, '_, AnyWriters>,
+    ) -> Result<Vec<u8>, AllocError> {
         text_lines(alloc, picture)
     }
 }
@@ -183,7 +200,11 @@ impl Markup for Explained {
         Said::Whole(self.listed)
     }
 
-    fn text(&self, alloc: Global, picture: &Picture<'_, '_>) -> Result<Vec<u8>, AllocError> {
+    fn text(
+        &self,
+        alloc: Global,
+        picture: &Picture<'_, '_, AnyWriters>,
+    ) -> Result<Vec<u8>, AllocError> {
         explained_lines(alloc, picture)
     }
 }

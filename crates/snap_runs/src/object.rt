@@ -1,5 +1,7 @@
 //! The JSON object of a text.
 ghost use Rattle.std.specs.Prelude.{◌≡◌, IfOk, length, string_bytes};
+ghost use Rattle.snap_core.specs.declared.writers.Writers.{Writers};
+ghost use Rattle.snap_core.specs.Bounded.{IsHistoryBy};
 ghost use Rattle.snap_json.specs.Objects.{refusal_json};
 ghost use Rattle.snap_json.specs.Values.{IsLineOf};
 ghost use Rattle.snap_check.specs.Statuses.{code_of};
@@ -8,7 +10,7 @@ ghost use Rattle.snap_runs.specs.Telling.{IsToldHistory, TellsHistory, object_na
 
 use crate::question::Named;
 use snap_check::{Judging, Status, status_of};
-use snap_core::History;
+use snap_core::{AnyWriters, History};
 use snap_index::Index;
 use snap_json::{few_views_line, history_line, refusal_line};
 use snap_text::TextFault;
@@ -26,13 +28,13 @@ fn object_by<J: Judging>(
     judging: &J,
     alloc: Global,
     name: &str,
-    index: &Index<'_>,
+    index: &Index<'_, AnyWriters>,
     records: &[u32],
     bytes: usize,
 ) -> Result<(Status, Vec<u8>), AllocError>
     requires ready { J.ready }
     requires each { length records.now ≡ length index.now }
-    ensures { IfOk result (λ answer. IsToldHistory name.now index.now records.now answer.0 answer.1.items) }
+    ensures { IfOk result (λ answer. (writers : Writers) → IsHistoryBy writers index.now → IsToldHistory name.now writers index.now records.now answer.0 answer.1.items) }
 {
     // what is known of the history that the index is of
     let _events = index.event_count();
@@ -47,13 +49,13 @@ pub(crate) fn object_of<J: Judging>(
     judging: &J,
     alloc: Global,
     named: Named<'_>,
-    history: &History,
+    history: &History<AnyWriters>,
     records: &[u32],
     bytes: usize,
 ) -> Result<(Status, Vec<u8>), AllocError>
     requires ready { J.ready }
     requires each { length records.now ≡ length history.now.events }
-    ensures { IfOk result (λ answer. TellsHistory (spec_object_name named.entry.name.now) named.entry.views history.now.events records.now answer.0 answer.1.items) }
+    ensures { IfOk result (λ answer. (writers : Writers) → IsHistoryBy writers history.now.events → TellsHistory (spec_object_name named.entry.name.now) named.entry.views writers history.now.events records.now answer.0 answer.1.items) }
 {
     let shown = object_name(alloc, named.name)?;
     let index = Index::build(alloc, history)?;

@@ -1,6 +1,8 @@
 //! The run that records a history.
 ghost use Rattle.std.specs.Prelude.{◌≡◌, ◌<◌, ◌≤◌, IfOk, OnOk, length, true};
 ghost use Rattle.std.specs.List.Sorted.{IsStrictlyIncreasing};
+ghost use Rattle.snap_core.specs.declared.writers.Writers.{Writers};
+ghost use Rattle.snap_core.specs.Bounded.{IsHistoryBy};
 ghost use Rattle.snap_core.specs.Counting.{failures_in, inner_of};
 ghost use Rattle.snap_format.specs.Layout.{history_text, stamped_text};
 ghost use Rattle.snap_record.specs.Plans.{AreWorkers, HasNoViews};
@@ -9,7 +11,7 @@ ghost use Rattle.snap_check.specs.Verdicts.{IsVerdict};
 ghost use Rattle.snap_check.specs.declared.status.Status.TheVariants.{Atomic, Recorded};
 
 use snap_check::{CheckOptions, Checking, RunFault, Status, verdict};
-use snap_core::{Counted, Gate, History, OpenGate};
+use snap_core::{AnyWriters, Counted, Gate, History, OpenGate};
 use snap_csv::{write_history, write_history_stamped};
 use snap_record::{Plan, Recording, record_plan};
 use snap_threads::Cutting;
@@ -24,7 +26,7 @@ fn recorded<Rt: Threads + Wait + Sync, G: Gate>(
     alloc: Global,
     plan: &Plan,
     gate: &G,
-) -> Result<(History, Vec<u64>), AllocError>
+) -> Result<(History<AnyWriters>, Vec<u64>), AllocError>
     ensures workers { OnOk result (AreWorkers (length plan.now.scripts)) }
     ensures history { IfOk result (λ r. IsRecordingOf plan.now.scripts r.0.events) }
     ensures stamps { IfOk result (λ r. HasStamps plan.now.scripts r.0.events r.1.items) }
@@ -38,13 +40,13 @@ fn recorded<Rt: Threads + Wait + Sync, G: Gate>(
         stamps,
     } = recording;
     let _events = history.events();
-    Ok((history, stamps))
+    Ok((history.into_any(), stamps))
 }
 
 // Writes the text of a history, and answers a status.
 fn write_text<W: Write>(
     alloc: Global,
-    history: &History,
+    history: &History<AnyWriters>,
     status: Status,
     writer: &mut Counted<W>,
 ) -> Result<Status, RunFault>
@@ -59,7 +61,7 @@ fn write_text<W: Write>(
 // Writes the text of a history with a stamp for each event.
 fn write_stamped_text<W: Write>(
     alloc: Global,
-    history: &History,
+    history: &History<AnyWriters>,
     stamps: &[u64],
     writer: &mut Counted<W>,
 ) -> Result<Status, RunFault>
@@ -77,20 +79,23 @@ fn write_stamped_text<W: Write>(
 fn write_report<Rt: Threads + Wait + Sync, W: Write>(
     rt: &Rt,
     alloc: Global,
-    history: &History,
+    history: &History<AnyWriters>,
     writer: &mut Counted<W>,
     cutting: Cutting,
 ) -> Result<Status, RunFault>
-    ensures wrote { WroteAs (IsVerdict history.now.events) (W.contents (inner_of writer.old)) (W.contents (inner_of writer.new)) result }
+    ensures wrote { WroteAs (λ status out. (writers : Writers) → IsHistoryBy writers history.now.events → IsVerdict writers history.now.events status out) (W.contents (inner_of writer.old)) (W.contents (inner_of writer.new)) result }
     ensures counts { WriteCounts (failures_in writer.old) (failures_in writer.new) result }
 {
+    // this call shows what is known of the history
+    let _events = history.events();
     let room = Vec::new(alloc);
     let checking = Checking {
         cutting,
         gate: &OpenGate,
         options: CheckOptions::plain(),
     };
-    let (Some(status), text) = verdict(rt, alloc, history, room, &checking)? else {
+    let (answer, text) = verdict(rt, alloc, history, room, &checking)?;
+    let Some(status) = answer else {
         // no number of views is too small
         unreachable!()
     };

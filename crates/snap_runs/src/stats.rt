@@ -5,14 +5,18 @@ ghost use Rattle.snap_runs.specs.Stats.{CountsHistory, WritesStats};
 
 use crate::object::object_name;
 use snap_check::Status;
-use snap_core::History;
+use snap_core::{AnyWriters, History};
 use snap_index::Index;
 use snap_json::stats_line;
 use snap_stats::{stats_of, stats_text};
 use std::alloc::{AllocError, Global};
 
 // What is written of a history.
-fn stats_out(alloc: Global, name: Option<&[u8]>, history: &History) -> Result<Vec<u8>, AllocError>
+fn stats_out(
+    alloc: Global,
+    name: Option<&[u8]>,
+    history: &History<AnyWriters>,
+) -> Result<Vec<u8>, AllocError>
     ensures { IfOk result (λ out. WritesStats (option_copied name.entry) history.now.events out.items) }
 {
     let index = Index::build(alloc, history)?;
@@ -30,7 +34,7 @@ fn stats_out(alloc: Global, name: Option<&[u8]>, history: &History) -> Result<Ve
 pub(crate) fn counted(
     alloc: Global,
     name: Option<&[u8]>,
-    history: &History,
+    history: &History<AnyWriters>,
 ) -> Result<(Status, Vec<u8>), AllocError>
     ensures { IfOk result (λ answer. CountsHistory (option_copied name.entry) history.now.events answer.0 answer.1.items) }
 {

@@ -4,6 +4,7 @@ ghost use Rattle.std.specs.Option.{ForSome};
 ghost use Rattle.snap_core.specs.Calls.{call_numbered, calls_of};
 ghost use Rattle.snap_runs.specs.Mapping.{columns, end_word, map_line, map_text};
 
+use snap_core::AnyWriters;
 use snap_index::Index;
 use snap_report::{put_call, put_number};
 use std::alloc::{AllocError, Global};
@@ -22,7 +23,7 @@ fn put_end(out: &mut Vec<u8>, records: &[u32], ended: Option<u32>) -> Result<(),
 // Adds the number of a call, its process, and the records of its begin and its end, with a comma between two.
 fn put_columns(
     out: &mut Vec<u8>,
-    index: &Index<'_>,
+    index: &Index<'_, AnyWriters>,
     records: &[u32],
     number: u32,
 ) -> Result<(), AllocError>
@@ -45,9 +46,9 @@ fn put_columns(
 // Adds the columns of a call, and those of the call that it is made from, by their two numbers.
 fn put_line(
     out: &mut Vec<u8>,
-    left: &Index<'_>,
+    left: &Index<'_, AnyWriters>,
     mine: &[u32],
-    index: &Index<'_>,
+    index: &Index<'_, AnyWriters>,
     theirs: &[u32],
     pair: (u32, u32),
 ) -> Result<(), AllocError>
@@ -68,9 +69,9 @@ fn put_line(
 /// events of both are given.
 pub(crate) fn table_of(
     alloc: Global,
-    left: &Index<'_>,
+    left: &Index<'_, AnyWriters>,
     mine: &[u32],
-    index: &Index<'_>,
+    index: &Index<'_, AnyWriters>,
     theirs: &[u32],
     sources: &[u32],
 ) -> Result<Vec<u8>, AllocError>

@@ -1,5 +1,7 @@
 //! The test case of a text, in a document of JUnit.
 ghost use Rattle.std.specs.Prelude.{◌≡◌, IfOk, length};
+ghost use Rattle.snap_core.specs.declared.writers.Writers.{Writers};
+ghost use Rattle.snap_core.specs.Bounded.{IsHistoryBy};
 ghost use Rattle.snap_explain.specs.TestCases.{ended_case};
 ghost use Rattle.snap_explain.specs.declared.test_case.Ending.TheVariants.{Failure};
 ghost use Rattle.snap_runs.specs.TestCases.{IsHistoryCase, IsJudgedCase, IsRefusalCase, few_views_text};
@@ -7,7 +9,7 @@ ghost use Rattle.snap_runs.specs.TestCases.{IsHistoryCase, IsJudgedCase, IsRefus
 use crate::question::Named;
 use snap_check::{Judging, Status, status_of};
 use snap_conditions::is_atomic;
-use snap_core::{History, Limit};
+use snap_core::{AnyWriters, History, Limit};
 use snap_explain::{Ending, Entries, ended_case, explain, explain_refusal, passed_case};
 use snap_index::Index;
 use snap_report::put_number;
@@ -19,13 +21,13 @@ fn case_by<J: Judging>(
     judging: &J,
     alloc: Global,
     name: &[u8],
-    index: &Index<'_>,
+    index: &Index<'_, AnyWriters>,
     records: &[u32],
     bytes: usize,
 ) -> Result<(Status, Vec<u8>), AllocError>
     requires ready { J.ready }
     requires each { length records.now ≡ length index.now }
-    ensures { IfOk result (λ answer. IsJudgedCase name.now index.now records.now answer.0 answer.1.items) }
+    ensures { IfOk result (λ answer. (writers : Writers) → IsHistoryBy writers index.now → IsJudgedCase name.now writers index.now records.now answer.0 answer.1.items) }
 {
     // what is known of the history that the index is of
     let _events = index.event_count();
@@ -56,13 +58,13 @@ pub(crate) fn judged_case<J: Judging>(
     judging: &J,
     alloc: Global,
     named: Named<'_>,
-    history: &History,
+    history: &History<AnyWriters>,
     records: &[u32],
     bytes: usize,
 ) -> Result<(Option<Status>, Vec<u8>), AllocError>
     requires ready { J.ready }
     requires each { length records.now ≡ length history.now.events }
-    ensures { IfOk result (λ answer. IsHistoryCase named.entry.name.now named.entry.views history.now.events records.now answer.0 answer.1.items) }
+    ensures { IfOk result (λ answer. (writers : Writers) → IsHistoryBy writers history.now.events → IsHistoryCase named.entry.name.now named.entry.views writers history.now.events records.now answer.0 answer.1.items) }
 {
     let index = Index::build(alloc, history)?;
     if index.view_count() < named.views {
@@ -82,7 +84,7 @@ pub(crate) fn refused_case(
     fault: TextFault,
     limit: Limit,
 ) -> Result<Vec<u8>, AllocError>
-    ensures { IfOk result (λ out. IsRefusalCase name.now limit.events text.now place fault out.items) }
+    ensures { IfOk result (λ out. IsRefusalCase name.now limit text.now place fault out.items) }
 {
     let said = explain_refusal(alloc, text, place, fault, limit)?;
     ended_case(alloc, Ending::Error, name, &said)

@@ -1,5 +1,5 @@
 -- Marks of updates, and counts of components, one entry or view after the other.
-use Rattle.std.proofs.Common.{◌≡◌, ◌≤◌, ◌<◌, ◌+◌, ℕ, suc, Bool, true, false, cond, not, ◌&&◌, ◌||◌, List, [], ◌∷◌, length, get_or, set, map, take, filter, find, count_by, Some, None, Option, refl, sym, ap, ◌∙◌, subst, inl, inr, arith, get_or-set_same, get_or-set_other, slice_get, All}
+use Rattle.std.proofs.Common.{◌≡◌, ◌≤◌, ◌<◌, ◌+◌, ℕ, Bool, true, false, cond, not, ◌&&◌, ◌||◌, List, [], ◌∷◌, length, get_or, set, map, take, find, count_by, Some, None, refl, sym, ap, ◌∙◌, inl, inr, arith, get_or-set_same, get_or-set_other, slice_get, All}
 use Rattle.std.specs.Prelude.{is_some, nat_lt, ◌==◌}
 use Rattle.std.specs.List.{list_any}
 use Rattle.std.specs.Option.{option_map}
@@ -13,10 +13,10 @@ use Rattle.snap_core.specs.declared.event.Event.{Event}
 use Rattle.snap_core.specs.Calls.{Call, Operation, Updates, Views, calls_of, call_numbered, entries_of, is_update_numbered, nobody, shown, views_of, writes_number}
 use Rattle.snap_core.specs.Entries.{component_count, entry_of, rises}
 use Rattle.snap_core.specs.Orders.{is_update}
-use Rattle.snap_core.specs.Events.{IsHistory}
+use Rattle.snap_core.specs.Ordered.{IsOrdered}
 use Rattle.snap_core.specs.Regular.{IsUpdateOf}
-use Rattle.snap_core.proofs.Facts.{AreCalls}
-use Rattle.snap_core.proofs.Histories.{are_calls, numbered_calls}
+use Rattle.snap_core.proofs.Ordered.{are_ordered_calls}
+use Rattle.snap_core.proofs.Histories.{numbered_calls}
 use Rattle.snap_core.proofs.Lists.{In, Contains-from_In, In-get_or, count-cons}
 use Rattle.snap_core.proofs.Members.{In-find}
 use Rattle.snap_index.specs.IndexedCalls.{entries_shown, number_of}
@@ -56,7 +56,7 @@ pub none_numbered : (es : List Event) (k n : ℕ) → option_map number_of (find
 none_numbered es k n h c l = find_none (is_update_numbered k n) (calls_of es) (mapped_none number_of _ h) _ (In-get_or (calls_of es) c nobody l)
 
 -- the call of the number that is found is the update, and no other one is
-pub one_numbered : (es : List Event) → IsHistory es → (k n u : ℕ) → option_map number_of (find (is_update_numbered k n) (calls_of es)) ≡ Some u → (c : ℕ) → c < length (calls_of es) → is_update_numbered k n (call_numbered (calls_of es) c) ≡ (c == u)
+pub one_numbered : (es : List Event) → IsOrdered es → (k n u : ℕ) → option_map number_of (find (is_update_numbered k n) (calls_of es)) ≡ Some u → (c : ℕ) → c < length (calls_of es) → is_update_numbered k n (call_numbered (calls_of es) c) ≡ (c == u)
 one_numbered es h k n u is c l = go (is_update_numbered k n (call_numbered (calls_of es) c)) refl
   where
     calls : List Call
@@ -67,7 +67,7 @@ one_numbered es h k n u is c l = go (is_update_numbered k n (call_numbered (call
         let m = mapped_some number_of (find (is_update_numbered k n) calls) u is in
         let found = update_found es k n m.from m.is in
         let mine = numbered_to calls k n (call_numbered calls c) (In-get_or calls c nobody l) t in
-        let same = (are_calls es h).one (call_numbered calls c) m.from mine.entry found.entry mine.update found.update (mine.component ∙ sym found.component) (mine.number ∙ sym found.number) in
+        let same = (are_ordered_calls es h).one (call_numbered calls c) m.from mine.entry found.entry mine.update found.update (mine.component ∙ sym found.component) (mine.number ∙ sym found.number) in
         sym (eq-eqb c u (sym (numbered_calls es c nobody l) ∙ ap number_of same ∙ m.to))
     go false t = elim (cases_eq c u) [
       | inl e ↦ absurd (let m = mapped_some number_of (find (is_update_numbered k n) calls) u is in
@@ -124,7 +124,7 @@ left_one o l n e = rw e (go o l)
     go false true = refl
     go false false = refl
 
-pub taken_more : (es : List Event) → IsHistory es → (entries : List Entry) (i : ℕ) (d : Entry) (u : ℕ) (old marks new : List Bool) → i < length entries → u < length marks →
+pub taken_more : (es : List Event) → IsOrdered es → (entries : List Entry) (i : ℕ) (d : Entry) (u : ℕ) (old marks new : List Bool) → i < length entries → u < length marks →
     option_map number_of (find (is_update_numbered (get_or entries i d).component (get_or entries i d).number) (calls_of es)) ≡ Some u →
     AreTaken (calls_of es) (take i entries) old marks → new ≡ set marks u false → AreTaken (calls_of es) (take (i + 1) entries) old new
 taken_more es h entries i d u old marks new l fits is taken e c few =

@@ -5,13 +5,13 @@ use Rattle.std.specs.List.{list_any, fold}
 use Rattle.std.specs.List.Sorted.{IsPermutation}
 use Rattle.std.specs.Option.{option_copied}
 use Rattle.std.proofs.lemmas.List.Sums.{count_by_more_no, count_by_more_yes, sum_by_more, sum_by_push}
-use Rattle.std.proofs.lemmas.Bool.{ltb-false, ltb-true, lt-ltb, le-ltb, false≢true, ne_eqb, eq-eqb, eqb-true}
+use Rattle.std.proofs.lemmas.Bool.{ltb-false, ltb-true, lt-ltb, le-ltb, false≢true, ne_eqb, eq-eqb}
 use Rattle.std.proofs.lemmas.List.{map-append}
 use Rattle.std.proofs.lemmas.List.Elements.{filter_more}
-use Rattle.snap_core.specs.Calls.{Call, Operation, Updates, Views, call_numbered, calls_of, is_answer, is_before, is_view, nobody, precedes, views_of}
+use Rattle.snap_core.specs.Calls.{Call, Operation, Updates, Views, call_numbered, is_answer, is_before, is_view, nobody, precedes, views_of}
 use Rattle.snap_core.specs.declared.entry.Entry.{Entry}
 use Rattle.snap_core.specs.Orders.{is_update, is_writing}
-use Rattle.snap_core.proofs.Facts.{AreCalls}
+use Rattle.snap_core.proofs.Ordered.{AreOrderedCalls}
 use Rattle.snap_core.proofs.Lists.{In, Contains-from_In, In-get_or, In-from_filter, Pairs, Pairs-filter, count-cons}
 use Rattle.snap_core.proofs.Members.{In-from_map}
 use Rattle.snap_index.specs.declared.call.Call.{Call as IndexedCall}
@@ -29,7 +29,7 @@ all_from : {X : Type 0} (P : X → Type 0) (xs : List X) → ((x : X) → In x x
 all_from P xs h = λ k d l. h _ (In-get_or xs k d l)
 
 -- calls end after they begin
-pub spans_rise : (calls : List Call) → AreCalls calls → (p : Call → Bool) → All Rises (map span_of (filter p calls))
+pub spans_rise : (calls : List Call) → AreOrderedCalls calls → (p : Call → Bool) → All Rises (map span_of (filter p calls))
 spans_rise calls f p = all_from Rises (map span_of (filter p calls)) one
   where
     one : (s : Span) → In s (map span_of (filter p calls)) → Rises s
@@ -82,7 +82,7 @@ pub met_calls : (r : Call) (cs : List Call) → count_by (meets_span (span_of r)
 unfolding overlaps precedes
 met_calls r cs = count-map (meets_span (span_of r)) span_of cs
 
-overlaps_itself : (calls : List Call) → AreCalls calls → (r : Call) → In r calls → overlaps r r ≡ true
+overlaps_itself : (calls : List Call) → AreOrderedCalls calls → (r : Call) → In r calls → overlaps r r ≡ true
 unfolding overlaps precedes
 overlaps_itself calls f r i = rw (late r.ended refl) refl
   where
@@ -149,7 +149,7 @@ update_met : (calls : List Call) (r : Call) → meets_some (map span_of (filter 
 unfolding overlaps_update all_updates
 update_met calls r = ap (nat_lt 0) (met_calls r (filter is_update calls)) ∙ sym (any_count (overlaps r) (filter is_update calls))
 
-view_met : (calls : List Call) → AreCalls calls → (r : Call) → In r (filter is_view calls) → meets_two (map span_of (filter is_view calls)) (span_of r) ≡ overlaps_view calls r
+view_met : (calls : List Call) → AreOrderedCalls calls → (r : Call) → In r (filter is_view calls) → meets_two (map span_of (filter is_view calls)) (span_of r) ≡ overlaps_view calls r
 unfolding overlaps_view views_of
 view_met calls f r i =
     ap (nat_lt 1) (met_calls r (filter is_view calls))
@@ -158,7 +158,7 @@ view_met calls f r i =
 abbrev counted : ℕ → ℕ → ℕ → Overlapping
 counted a b c = record { update = a; view = b; nothing = c }
 
-pub overlapping_is : (calls : List Call) → AreCalls calls → overlapping_in (map span_of (filter is_update calls)) (map span_of (filter is_view calls)) ≡ overlapping_of calls
+pub overlapping_is : (calls : List Call) → AreOrderedCalls calls → overlapping_in (map span_of (filter is_update calls)) (map span_of (filter is_view calls)) ≡ overlapping_of calls
 unfolding views_of overlaps_nothing
 overlapping_is calls f =
     ap (λ n. counted n (count_by (meets_two (map span_of vs)) (map span_of vs)) (count_by (λ r. not (meets_some us r || meets_two (map span_of vs) r)) (map span_of vs)))

@@ -49,6 +49,6 @@ abbrev pub process_of_call : Option Call → ℕ
 process_of_call None = 0
 process_of_call (Some c) = c.process
 
--- the writer of a component: the process of its first update, which makes all of them
+-- the writer of a component: the process of its first update, which makes all of them where there is one writer
 unfoldable pub writer_of : List Call → ℕ → ℕ
 writer_of calls k = process_of_call (find (is_update_numbered k 1) calls)

@@ -3,6 +3,7 @@ ghost use Rattle.std.specs.Prelude.{◌≡◌, ◌≤◌, IfOk};
 ghost use Rattle.snap_core.specs.Calls.{calls_of};
 ghost use Rattle.snap_stats.specs.Shown.{process_count as spec_process_count};
 
+use snap_core::Ownership;
 use snap_index::Index;
 use std::alloc::{AllocError, Global};
 
@@ -14,7 +15,10 @@ fn process_limit() -> usize
 }
 
 /// The number of processes that have a call.
-pub(crate) fn process_count(alloc: Global, index: &Index<'_>) -> Result<usize, AllocError>
+pub(crate) fn process_count<O: Ownership>(
+    alloc: Global,
+    index: &Index<'_, O>,
+) -> Result<usize, AllocError>
     ensures { IfOk result (λ count. count ≡ spec_process_count (calls_of index.now)) }
 {
     let mut seen = vec![in alloc; false; process_limit()]?;

@@ -7,12 +7,12 @@ ghost use Rattle.snap_core.specs.Orders.{is_update};
 ghost use Rattle.snap_stats.specs.Shown.{is_unshown};
 ghost use Rattle.snap_stats.specs.inside.Marks.{AreCountedMore, AreLeft, AreTaken, AreViewCounts};
 
-use snap_core::{COMPONENT_COUNT, Entry};
+use snap_core::{COMPONENT_COUNT, Entry, Ownership};
 use snap_index::{CallOp, Index};
 use std::alloc::{AllocError, Global};
 
 // Marks the calls that are updates.
-fn update_marks(alloc: Global, index: &Index<'_>) -> Result<Vec<bool>, AllocError>
+fn update_marks<O: Ownership>(alloc: Global, index: &Index<'_, O>) -> Result<Vec<bool>, AllocError>
     ensures { IfOk result (λ marks. marks.items ≡ map is_update (calls_of index.now)) }
 {
     let mut marks = Vec::new(alloc);
@@ -26,7 +26,7 @@ fn update_marks(alloc: Global, index: &Index<'_>) -> Result<Vec<bool>, AllocErro
 }
 
 // Takes the mark of each update that the entries list.
-fn take_marks(marks: &mut [bool], index: &Index<'_>, entries: &[Entry])
+fn take_marks<O: Ownership>(marks: &mut [bool], index: &Index<'_, O>, entries: &[Entry])
     requires { length marks.old ≡ length (calls_of index.now) }
     ensures { AreTaken (calls_of index.now) entries.now marks.old marks.new }
 {
@@ -40,7 +40,7 @@ fn take_marks(marks: &mut [bool], index: &Index<'_>, entries: &[Entry])
 }
 
 // Takes the mark of each update that a completed view shows.
-fn take_shown(marks: &mut [bool], index: &Index<'_>)
+fn take_shown<O: Ownership>(marks: &mut [bool], index: &Index<'_, O>)
     requires size { length marks.old ≡ length (calls_of index.now) }
     requires marks { marks.old ≡ map is_update (calls_of index.now) }
     ensures { AreLeft (calls_of index.now) (views_of (calls_of index.now)) marks.new }
@@ -66,7 +66,10 @@ fn count_marks(marks: &[bool]) -> usize
 }
 
 /// The number of updates, and the number of those that no completed view shows.
-pub(crate) fn update_counts(alloc: Global, index: &Index<'_>) -> Result<(usize, usize), AllocError>
+pub(crate) fn update_counts<O: Ownership>(
+    alloc: Global,
+    index: &Index<'_, O>,
+) -> Result<(usize, usize), AllocError>
     ensures all { IfOk result (λ counts. counts.0 ≡ count_by is_update (calls_of index.now)) }
     ensures unshown { IfOk result (λ counts. counts.1 ≡ count_by (is_unshown (calls_of index.now)) (calls_of index.now)) }
 {
@@ -89,7 +92,10 @@ fn count_components(counts: &mut [usize], entries: &[Entry])
 }
 
 /// The number of completed views that show each component.
-pub(crate) fn views_by_component(alloc: Global, index: &Index<'_>) -> Result<Vec<usize>, AllocError>
+pub(crate) fn views_by_component<O: Ownership>(
+    alloc: Global,
+    index: &Index<'_, O>,
+) -> Result<Vec<usize>, AllocError>
     ensures size { IfOk result (λ counts. length counts.items ≡ component_count) }
     ensures counts { IfOk result (λ counts. AreViewCounts (views_of (calls_of index.now)) counts.items) }
 {

@@ -4,6 +4,7 @@ ghost use Rattle.snap_core.specs.Calls.{call_numbered, calls_of};
 ghost use Rattle.snap_index.specs.IndexedCalls.{indexed_op};
 ghost use Rattle.snap_stats.specs.inside.Spans.{is_of as spec_is_of, span_of};
 
+use snap_core::Ownership;
 use snap_index::{CallOp, Index};
 use std::alloc::{AllocError, Global};
 
@@ -24,7 +25,7 @@ pub(crate) enum Kind {
 }
 
 // Whether the call of a number is of a kind.
-fn is_of(index: &Index<'_>, number: u32, op: CallOp, kind: Kind) -> bool
+fn is_of<O: Ownership>(index: &Index<'_, O>, number: u32, op: CallOp, kind: Kind) -> bool
     requires below { number < length (calls_of index.now) }
     requires same { op ≡ indexed_op (call_numbered (calls_of index.now) number).operation }
     ensures { result ≡ spec_is_of kind (call_numbered (calls_of index.now) number) }
@@ -37,9 +38,9 @@ fn is_of(index: &Index<'_>, number: u32, op: CallOp, kind: Kind) -> bool
 }
 
 /// The places of the calls of a kind, in the order of their begins.
-pub(crate) fn spans_of(
+pub(crate) fn spans_of<O: Ownership>(
     alloc: Global,
-    index: &Index<'_>,
+    index: &Index<'_, O>,
     kind: Kind,
 ) -> Result<Vec<Span>, AllocError>
     ensures { IfOk result (λ spans. spans.items ≡ map span_of (filter (spec_is_of kind) (calls_of index.now))) }

@@ -11,7 +11,7 @@ use crate::overlaps::{Overlapping, count_overlaps};
 use crate::processes::process_count;
 use crate::shown::{update_counts, views_by_component};
 use crate::span::{Kind, spans_of};
-use snap_core::COMPONENT_COUNT;
+use snap_core::{COMPONENT_COUNT, Ownership};
 use snap_index::Index;
 use std::alloc::{AllocError, Global};
 
@@ -60,7 +60,10 @@ impl Stats {
 }
 
 // The numbers of views that overlap other calls.
-fn overlapping_in(alloc: Global, index: &Index<'_>) -> Result<Overlapping, AllocError>
+fn overlapping_in<O: Ownership>(
+    alloc: Global,
+    index: &Index<'_, O>,
+) -> Result<Overlapping, AllocError>
     ensures { IfOk result (λ found. found ≡ overlapping_of (calls_of index.now)) }
 {
     // what is known about the history of the index
@@ -71,7 +74,7 @@ fn overlapping_in(alloc: Global, index: &Index<'_>) -> Result<Overlapping, Alloc
 }
 
 // The greatest number of calls that are open at once, and the number of events that the longest lasts.
-fn open_in(alloc: Global, index: &Index<'_>) -> Result<(usize, usize), AllocError>
+fn open_in<O: Ownership>(alloc: Global, index: &Index<'_, O>) -> Result<(usize, usize), AllocError>
     ensures most { IfOk result (λ found. found.0 ≡ spec_most_open (calls_of index.now)) }
     ensures longest { IfOk result (λ found. found.1 ≡ longest_call (calls_of index.now)) }
 {
@@ -83,7 +86,7 @@ fn open_in(alloc: Global, index: &Index<'_>) -> Result<(usize, usize), AllocErro
 }
 
 // The process of the first update of a component, or 0 if it has none.
-fn writer_of(index: &Index<'_>, component: u8) -> u16
+fn writer_of<O: Ownership>(index: &Index<'_, O>, component: u8) -> u16
     ensures { result ≡ spec_writer_of (calls_of index.now) component }
 {
     match index.update(component, 1) {
@@ -93,7 +96,10 @@ fn writer_of(index: &Index<'_>, component: u8) -> u16
 }
 
 // The counts of each component that has an update, in rising order.
-fn components_in(alloc: Global, index: &Index<'_>) -> Result<Vec<ComponentStats>, AllocError>
+fn components_in<O: Ownership>(
+    alloc: Global,
+    index: &Index<'_, O>,
+) -> Result<Vec<ComponentStats>, AllocError>
     ensures { IfOk result (λ components. components.items ≡ components_of (calls_of index.now)) }
 {
     let views = views_by_component(alloc, index)?;
@@ -114,9 +120,9 @@ fn components_in(alloc: Global, index: &Index<'_>) -> Result<Vec<ComponentStats>
 }
 
 /// The counts of a history, and those of each component that has an update, in rising order of the components. The error is lack of memory.
-pub fn stats_of(
+pub fn stats_of<O: Ownership>(
     alloc: Global,
-    index: &Index<'_>,
+    index: &Index<'_, O>,
 ) -> Result<(Stats, Vec<ComponentStats>), AllocError>
     ensures counts { IfOk result (λ shown. shown.0 ≡ spec_stats_of index.now) }
     ensures components { IfOk result (λ shown. shown.1.items ≡ components_of (calls_of index.now)) }

@@ -5,16 +5,15 @@ use Rattle.std.proofs.lemmas.Bool.{cases_lt, cases_eq, false≢true, lt-ltb, ltb
 use Rattle.std.proofs.lemmas.List.{length-append, get_or_append_left, get_or-append_right}
 use Rattle.std.proofs.Math.Seq.{get_or-append_seam}
 use Rattle.snap_core.specs.declared.event.Event.{Event}
-use Rattle.snap_core.specs.Events.{IsBoundedHistory}
+use Rattle.snap_core.specs.Bounded.{IsBoundedOrdered}
 use Rattle.snap_core.specs.Calls.{Call, calls_of, views_of, shown_number, precedes}
 use Rattle.snap_grid.specs.Columns.{AreOrderedAs, GridValue, TellAlike, number, clashes, any_passes, passes, drops}
 use Rattle.snap_grid.proofs.Passing.{any_at}
 use Rattle.snap_theory.specs.Faults.{exceeds, is_stale, read_fault}
-use Rattle.snap_views.specs.Seen.{view_in}
+use Rattle.snap_views.specs.Seen.{view_in, end_or_never}
 use Rattle.snap_tally.specs.Grids.{IsColumnOf, AreColumnsOf}
 use Rattle.snap_tally.specs.inside.Grids.{ShowAll, ArePlaced, ArePlacesOf, IsGridOf}
-use Rattle.snap_views.specs.Seen.{end_or_never}
-use Rattle.snap_core.proofs.Histories.{are_calls}
+use Rattle.snap_core.proofs.Ordered.{are_ordered_calls}
 use Rattle.snap_index.proofs.IndexedCalls.{precedes_at}
 use Rattle.snap_views.proofs.Viewed.{view_there}
 use Rattle.snap_theory.proofs.FaultLists.{from_views}
@@ -25,14 +24,14 @@ use Rattle.std.specs.List.{list_any}
 
 -- places where views begin and end
 
-pub placed : (es : List Event) → IsBoundedHistory es → (n : ℕ) (begins ends : List ℕ) → length (views_of (calls_of es)) ≡ n → ArePlaced (calls_of es) n begins ends → ArePlacesOf (calls_of es) n begins ends
+pub placed : (es : List Event) → IsBoundedOrdered es → (n : ℕ) (begins ends : List ℕ) → length (views_of (calls_of es)) ≡ n → ArePlaced (calls_of es) n begins ends → ArePlacesOf (calls_of es) n begins ends
 placed es kept n begins ends size h = record {
   begun = h.begun;
   ended = h.ended;
   precede = λ a b l m.
       let calls = calls_of es in
       let r = view_in calls a in
-      let e = (are_calls es kept.history).answered r (from_views calls r (view_there es a (omega (arith, l, size)))) in
+      let e = (are_ordered_calls es kept.history).answered r (from_views calls r (view_there es a (omega (arith, l, size)))) in
       precedes_at r (view_in calls b) e.place e.ends
       ∙ ap (λ z. nat_lt z (view_in calls b).begun) (sym (h.end a l ∙ ap end_or_never e.ends)) ∙ ap (nat_lt (number ends a)) (sym (h.begin b m));
 }
@@ -103,7 +102,7 @@ any_index p (x ∷ xs) h = at (p x) refl (any_index p xs)
     at true t rest = (0, omega arith, t)
     at false t rest = let r = rest (sym (ap (λ b. b || list_any p xs) t) ∙ h) in (suc r.0, omega (arith, r.1), r.2)
 
-pub show_all : (es : List Event) → IsBoundedHistory es → (columns : List (List ℕ)) → AreColumnsOf (calls_of es) 0 256 columns → ShowAll (calls_of es) columns
+pub show_all : (es : List Event) → IsBoundedOrdered es → (columns : List (List ℕ)) → AreColumnsOf (calls_of es) 0 256 columns → ShowAll (calls_of es) columns
 unfolding any_passes
 show_all es kept columns c = record {
   count = λ j m. (c.each j m).3.count;
@@ -163,7 +162,7 @@ pub any_less : (columns : List (List ℕ)) (a b : ℕ) → any_passes false colu
 unfolding any_passes
 any_less columns a b = refl
 
-pub is_grid : (es : List Event) → IsBoundedHistory es → (g : GridValue) (columns : List (List ℕ)) (begins ends : List ℕ) → g ≡ record { columns = columns; begins = begins; ends = ends } → ShowAll (calls_of es) columns →
+pub is_grid : (es : List Event) → IsBoundedOrdered es → (g : GridValue) (columns : List (List ℕ)) (begins ends : List ℕ) → g ≡ record { columns = columns; begins = begins; ends = ends } → ShowAll (calls_of es) columns →
     ArePlacesOf (calls_of es) (length (views_of (calls_of es))) begins ends → IsGridOf es g
 unfolding clashes drops is_stale read_fault
 is_grid es kept g columns begins ends e shown places = subst (IsGridOf es) (sym e) (record {

@@ -8,7 +8,7 @@ use Rattle.std.proofs.lemmas.List.{get_or_default}
 use Rattle.std.proofs.lemmas.List.FromFn.{get_or-range_with_len, length-range_with_len}
 use Rattle.std.proofs.lemmas.List.Sorted.{All-permutation, Contains-permutation, length_permutation}
 use Rattle.snap_core.specs.declared.event.Event.{Event}
-use Rattle.snap_core.specs.Events.{IsBoundedHistory}
+use Rattle.snap_core.specs.Bounded.{IsBoundedOrdered}
 use Rattle.snap_core.specs.Calls.{Call, calls_of, views_of}
 use Rattle.snap_grid.specs.Columns.{IsOrderedAs, number, any_passes}
 use Rattle.snap_theory.specs.Faults.{exceeds}
@@ -158,7 +158,7 @@ all_ranked sums places ranks n rank last c all h = record {
 }
 
 -- of comparable views one shows more of some component exactly where its sum is greater
-more_by_sum : (es : List Event) → IsBoundedHistory es → AreComparable (calls_of es) → (a b : ℕ) → a < length (views_of (calls_of es)) → b < length (views_of (calls_of es)) →
+more_by_sum : (es : List Event) → IsBoundedOrdered es → AreComparable (calls_of es) → (a b : ℕ) → a < length (views_of (calls_of es)) → b < length (views_of (calls_of es)) →
     exceeds (view_in (calls_of es) a) (view_in (calls_of es) b) ≡ nat_lt (shown_sum (view_in (calls_of es) b)) (shown_sum (view_in (calls_of es) a))
 more_by_sum es kept h a b l m =
     let r = view_in (calls_of es) a in
@@ -169,7 +169,7 @@ more_by_sum es kept h a b l m =
     ]
 
 -- so that one column of numbers that compare as the sums do shows it
-pub show_ranks : (es : List Event) → IsBoundedHistory es → AreComparable (calls_of es) → (sums ranks : List ℕ) → AreViewSums (calls_of es) sums → IsOrderedAs sums ranks → ShowAll (calls_of es) (ranks ∷ [])
+pub show_ranks : (es : List Event) → IsBoundedOrdered es → AreComparable (calls_of es) → (sums ranks : List ℕ) → AreViewSums (calls_of es) sums → IsOrderedAs sums ranks → ShowAll (calls_of es) (ranks ∷ [])
 unfolding any_passes
 show_ranks es kept h sums ranks are r = record {
   count = λ j m. elim (cases_lt 0 j) [ inl more ↦ absurd (omega (arith, m, more)) | inr none ↦ ap (λ z. length (get_or (ranks ∷ []) z [])) (let e : j ≡ 0 = omega (arith, none) in e) ∙ r.count ∙ size ];

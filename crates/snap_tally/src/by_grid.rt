@@ -8,14 +8,15 @@ ghost use Rattle.snap_views.specs.Seen.{views_between};
 
 use crate::view_grid::ViewGrid;
 use snap_conditions::{Part, ReadFault, Tally, read_fault_of, tally_without_read};
+use snap_core::Ownership;
 use std::alloc::{AllocError, Global};
 
 /// The read faults whose first view is one of the completed views from `from` to `to - 1`, as they are reported. It also gives
 /// the number of views that are stale to these. Views are counted from 0 in the order of call numbers. A grid compares 512 views
 /// at once, from `from` on, so a smaller range takes as long. The error is lack of memory.
-pub fn read_faults_by_grid(
+pub fn read_faults_by_grid<O: Ownership>(
     alloc: Global,
-    grid: &ViewGrid<'_, '_>,
+    grid: &ViewGrid<'_, '_, O>,
     from: u32,
     to: u32,
 ) -> Result<(Part<ReadFault>, u64), AllocError>
@@ -35,9 +36,9 @@ pub fn read_faults_by_grid(
 
 /// The faults whose first view is one of the completed views from `from` to `to - 1`, as `tally_range` gives them. Views are
 /// counted from 0 in the order of call numbers. The read faults come from the grid of all views. The error is lack of memory.
-pub fn tally_by_grid(
+pub fn tally_by_grid<O: Ownership>(
     alloc: Global,
-    grid: &ViewGrid<'_, '_>,
+    grid: &ViewGrid<'_, '_, O>,
     from: u32,
     to: u32,
 ) -> Result<Tally, AllocError>

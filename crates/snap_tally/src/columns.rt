@@ -2,13 +2,13 @@
 ghost use Rattle.std.specs.Prelude.{◌≡◌, ◌<◌, ◌≤◌, ℕ, true, length, All, IfOk};
 ghost use Rattle.snap_core.specs.Calls.{calls_of, views_of};
 ghost use Rattle.snap_core.specs.Entries.{AreEntries, EntryFits, component_count, rises};
-ghost use Rattle.snap_core.specs.Events.{IsBoundedHistory};
+ghost use Rattle.snap_core.specs.Bounded.{IsBoundedOrdered};
 ghost use Rattle.snap_tally.specs.Grids.{AreColumnsOf};
 ghost use Rattle.snap_tally.specs.inside.NumberTables.{AreFilled};
 ghost use Rattle.snap_views.specs.Rows.{number_among};
 
 use crate::number_table::NumberTable;
-use snap_core::Entry;
+use snap_core::{Entry, Ownership};
 use snap_grid::{Column, TABLE_LIMIT};
 use snap_index::Index;
 use snap_views::view_at;
@@ -28,13 +28,13 @@ fn entries_between(entries: &[Entry], from: usize, to: usize) -> &[Entry]
 }
 
 // The numbers that all completed views show of the components from `from` to before `to`.
-fn numbers_between(
+fn numbers_between<O: Ownership>(
     alloc: Global,
-    index: &Index<'_>,
+    index: &Index<'_, O>,
     from: usize,
     to: usize,
 ) -> Result<NumberTable, AllocError>
-    requires kept { IsBoundedHistory index.now }
+    requires kept { IsBoundedOrdered index.now }
     requires order { from ≤ to }
     ensures { IfOk result (λ table. AreFilled (calls_of index.now) from to (length (views_of (calls_of index.now))) table) }
 {
@@ -50,9 +50,9 @@ fn numbers_between(
 /// A column for each component from `from` to `to - 1` that some completed view lists. It has the numbers that all completed
 /// views show of the component, in the order of call numbers. The columns of two adjoining ranges are together those of both. The
 /// error is lack of memory.
-pub fn columns_between(
+pub fn columns_between<O: Ownership>(
     alloc: Global,
-    index: &Index<'_>,
+    index: &Index<'_, O>,
     from: usize,
     to: usize,
 ) -> Result<Vec<Column>, AllocError>

@@ -1,7 +1,7 @@
 //! The grid of the completed views.
 ghost use Rattle.std.specs.Prelude.{◌≡◌, ◌<◌, ◌≤◌, ◌∷◌, [], length, option_map, IfOk, IfSome};
 ghost use Rattle.snap_core.specs.Calls.{calls_of, views_of};
-ghost use Rattle.snap_core.specs.Events.{IsBoundedHistory};
+ghost use Rattle.snap_core.specs.Bounded.{IsBoundedOrdered};
 ghost use Rattle.snap_core.specs.Entries.{component_count};
 ghost use Rattle.snap_views.specs.Chains.{IsViewChain};
 ghost use Rattle.snap_tally.specs.Grids.{AreColumnsOf};
@@ -12,7 +12,7 @@ ghost use Rattle.snap_views.specs.Seen.{AreViewPlaces, view_in, views_at, views_
 
 use crate::columns::columns_between;
 use crate::ranks::ranks;
-use snap_core::COMPONENT_COUNT;
+use snap_core::{COMPONENT_COUNT, OneWriter, Ownership};
 use snap_grid::{Column, Grid, by_ranks, joined};
 use snap_index::Index;
 use snap_views::{ViewChain, view_at};
@@ -32,12 +32,12 @@ pub struct ReadPairs {
 
 /// What the completed views of an index show, kept so that counting their read faults and stale views is fast.
 #[derive(Drop)]
-pub struct ViewGrid<'i, 'h> {
-    index: &'i Index<'h>,
+pub struct ViewGrid<'i, 'h, O: Ownership = OneWriter> {
+    index: &'i Index<'h, O>,
     grid: Grid,
 }
 
-impl<'i, 'h> Model for ViewGrid<'i, 'h> {
+impl<'i, 'h, O: Ownership> Model for ViewGrid<'i, 'h, O> {
     ghost use Rattle.std.specs.Prelude.{List};
     ghost use Rattle.snap_core.specs.declared.event.Event.{Event};
     ghost use Rattle.snap_tally.specs.inside.Grids.{IsGridOf};
@@ -50,8 +50,11 @@ impl<'i, 'h> Model for ViewGrid<'i, 'h> {
 }
 
 // The places at which each completed view begins and ends.
-fn places_of(alloc: Global, index: &Index<'_>) -> Result<(Vec<u32>, Vec<u32>), AllocError>
-    requires { IsBoundedHistory index.now }
+fn places_of<O: Ownership>(
+    alloc: Global,
+    index: &Index<'_, O>,
+) -> Result<(Vec<u32>, Vec<u32>), AllocError>
+    requires { IsBoundedOrdered index.now }
     ensures { IfOk result (λ places. ArePlacesOf (calls_of index.now) (length (views_of (calls_of index.now))) places.0.items places.1.items) }
 {
     let count = index.view_count() as usize;
@@ -65,9 +68,9 @@ fn places_of(alloc: Global, index: &Index<'_>) -> Result<(Vec<u32>, Vec<u32>), A
     Ok((begins, ends))
 }
 
-impl<'i, 'h> ViewGrid<'i, 'h> {
+impl<'i, 'h, O: Ownership> ViewGrid<'i, 'h, O> {
     /// The grid of the completed views of an index, which it borrows. The error is lack of memory.
-    pub fn build(alloc: Global, index: &'i Index<'h>) -> Result<ViewGrid<'i, 'h>, AllocError>
+    pub fn build(alloc: Global, index: &'i Index<'h, O>) -> Result<ViewGrid<'i, 'h, O>, AllocError>
         ensures { IfOk result (λ grid. grid ≡ index.now) }
     {
         let columns = columns_between(alloc, index, 0, COMPONENT_COUNT)?;
@@ -77,9 +80,9 @@ impl<'i, 'h> ViewGrid<'i, 'h> {
     /// The grid of `build`, from the columns of all components, as `columns_between` gives them. The error is lack of memory.
     pub fn of_columns(
         alloc: Global,
-        index: &'i Index<'h>,
+        index: &'i Index<'h, O>,
         columns: Vec<Column>,
-    ) -> Result<ViewGrid<'i, 'h>, AllocError>
+    ) -> Result<ViewGrid<'i, 'h, O>, AllocError>
         requires { AreColumnsOf (calls_of index.now) 0 component_count columns.items }
         ensures { IfOk result (λ grid. grid ≡ index.now) }
     {
@@ -94,9 +97,9 @@ impl<'i, 'h> ViewGrid<'i, 'h> {
     /// The error is lack of memory.
     pub fn of_chain(
         alloc: Global,
-        index: &'i Index<'h>,
+        index: &'i Index<'h, O>,
         chain: &ViewChain,
-    ) -> Result<ViewGrid<'i, 'h>, AllocError>
+    ) -> Result<ViewGrid<'i, 'h, O>, AllocError>
         requires chain { IsViewChain (calls_of index.now) chain.now }
         requires comparable { AreComparable (calls_of index.now) }
         ensures { IfOk result (λ grid. grid ≡ index.now) }
@@ -111,10 +114,10 @@ impl<'i, 'h> ViewGrid<'i, 'h> {
     // The grid of these columns. They must show, of any two views, whether one shows more of some component than the other.
     fn of_keys(
         alloc: Global,
-        index: &'i Index<'h>,
+        index: &'i Index<'h, O>,
         keys: Vec<Column>,
-    ) -> Result<ViewGrid<'i, 'h>, AllocError>
-        requires kept { IsBoundedHistory index.now }
+    ) -> Result<ViewGrid<'i, 'h, O>, AllocError>
+        requires kept { IsBoundedOrdered index.now }
         requires keys { ShowAll (calls_of index.now) keys.items }
         ensures { IfOk result (λ grid. grid ≡ index.now) }
     {
@@ -126,7 +129,7 @@ impl<'i, 'h> ViewGrid<'i, 'h> {
     }
 
     /// The index whose views the grid has.
-    pub fn index(&self) -> &'i Index<'h>
+    pub fn index(&self) -> &'i Index<'h, O>
         ensures { result.now ≡ self.now }
     {
         self.index

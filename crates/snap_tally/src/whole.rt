@@ -8,15 +8,16 @@ ghost use Rattle.snap_conditions.specs.Tally.{tally_of};
 use crate::by_grid::tally_by_grid;
 use crate::view_grid::ViewGrid;
 use snap_conditions::{Tally, tally_without_read};
+use snap_core::Ownership;
 use snap_index::Index;
 use snap_views::{ViewChain, ViewOrder, view_order, view_sums};
 use std::alloc::{AllocError, Global};
 
 /// The tally of all completed views, and these as a chain exactly when no two of them are a read fault. No grid of the views is
 /// made then. The error is lack of memory.
-pub fn tally_and_chain_alone(
+pub fn tally_and_chain_alone<O: Ownership>(
     alloc: Global,
-    index: &Index<'_>,
+    index: &Index<'_, O>,
 ) -> Result<(Tally, Option<ViewChain>), AllocError>
     ensures tally { IfOk result (λ answer. answer.0 ≡ tally_of (calls_of index.now) (views_of (calls_of index.now))) }
     ensures chain { IfOk result (λ answer. IfSome answer.1 (IsViewChain (calls_of index.now))) }
@@ -37,7 +38,7 @@ pub fn tally_and_chain_alone(
 }
 
 // The tally of all completed views, of which two may cross.
-fn tally_by_columns(alloc: Global, index: &Index<'_>) -> Result<Tally, AllocError>
+fn tally_by_columns<O: Ownership>(alloc: Global, index: &Index<'_, O>) -> Result<Tally, AllocError>
     ensures { IfOk result (λ tally. tally ≡ tally_of (calls_of index.now) (views_of (calls_of index.now))) }
 {
     let grid = ViewGrid::build(alloc, index)?;
@@ -45,7 +46,11 @@ fn tally_by_columns(alloc: Global, index: &Index<'_>) -> Result<Tally, AllocErro
 }
 
 // The tally of all completed views, by a grid of them.
-fn tally_by(alloc: Global, index: &Index<'_>, grid: ViewGrid<'_, '_>) -> Result<Tally, AllocError>
+fn tally_by<O: Ownership>(
+    alloc: Global,
+    index: &Index<'_, O>,
+    grid: ViewGrid<'_, '_, O>,
+) -> Result<Tally, AllocError>
     requires { grid ≡ index.now }
     ensures { IfOk result (λ tally. tally ≡ tally_of (calls_of index.now) (views_of (calls_of index.now))) }
 {

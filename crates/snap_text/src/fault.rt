@@ -29,6 +29,8 @@ pub enum TextFault {
     Writer,
     /// An update whose number is not the next of its component.
     Number,
+    /// The end of an update before that of a lower number of its component, where a component has many writers.
+    Order,
     /// The text has too many bytes.
     TooLong,
     /// The stamp is not a number below 2^64. It is tested before `BadEvent`.
@@ -55,6 +57,7 @@ impl TextFault {
             TextFault::OtherOp => "otherop",
             TextFault::Writer => "writer",
             TextFault::Number => "number",
+            TextFault::Order => "order",
             TextFault::TooLong => "toolong",
             TextFault::BadAt => "at",
             TextFault::Repeated => "repeated",

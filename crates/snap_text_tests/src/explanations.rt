@@ -339,6 +339,11 @@ const RULES: &[(u32, TextFault, &str)] = &[
         TextFault::TooLong,
         "\na text has at most 1073741824 bytes\n",
     ),
+    (
+        65_536,
+        TextFault::Order,
+        "\nan update ends after all updates of its component with lower numbers have ended\n",
+    ),
 ];
 
 // Whether the rule is said about a fault of a text under a limit.

@@ -1,15 +1,15 @@
 //! Histories made of events, pushed one by one.
-use snap_core::{Event, EventRefusal, History, histories_grow};
+use snap_core::{Event, EventRefusal, History, Ownership, histories_grow};
 use snap_testing::Step::{Update, Updated, View, Viewed};
 use snap_testing::{Step, event_of, history_of, worked};
 use std::alloc::Global;
 use std::process::Abort;
 use std::test::Fail;
 
-// Why a history refuses a step, or nothing if it takes it.
-fn refusal(
+/// Why a history refuses a step, or nothing if it takes it.
+pub(crate) fn refusal(
     alloc: Global,
-    history: &mut History,
+    history: &mut History<impl Ownership>,
     step: Step<'_>,
 ) -> Result<Option<EventRefusal>, Fail> {
     match history.push(event_of(alloc, step)?) {

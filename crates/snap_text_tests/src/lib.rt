@@ -8,6 +8,8 @@ mod explanations;
 #[cfg(test)]
 mod histories;
 #[cfg(test)]
+mod many_writers;
+#[cfg(test)]
 mod mistakes;
 #[cfg(test)]
 mod reports;

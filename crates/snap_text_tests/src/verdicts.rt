@@ -1,7 +1,7 @@
 //! The status of worked texts, and the report or the lines of the verdicts, judged on the calling thread.
 use snap_check::{Status, brief_verdict_of, judge_text, status_of};
 use snap_conditions::tally_range;
-use snap_core::Limit;
+use snap_core::{AnyWriters, Limit};
 use snap_csv::read_text;
 use snap_index::Index;
 use std::alloc::Global;
@@ -70,7 +70,7 @@ const VERDICTS: &[(&str, Status, &str)] = &[
 fn expect_verdicts(
     rt: &impl Abort,
     alloc: Global,
-    index: &Index<'_>,
+    index: &Index<'_, AnyWriters>,
     status: Status,
     verdicts: &str,
 ) -> Result<(), Fail> {

@@ -14,7 +14,7 @@ use Rattle.snap_core.proofs.Lists.{In, In-from_Contains, Contains-from_In, In-ap
 use Rattle.snap_core.proofs.Facts.{shown_number_at, shown_number_none, shows_positive, precedes_to, precedes_later}
 use Rattle.snap_theory.proofs.Legal.{Kept, completed_view}
 use Rattle.snap_theory.proofs.LastWritten.{Written, last_written_from, last_written-append, written_at}
-use Rattle.snap_theory.proofs.Ordered.{AreOrderedCalls, begins_no_later}
+use Rattle.snap_core.proofs.Ordered.{AreOrderedCalls, begins_no_later}
 
 -- no later call precedes an earlier one
 -- a view at its place in a legal order

@@ -8,11 +8,11 @@ use Rattle.snap_core.specs.Events.{process_of, events_of}
 use Rattle.snap_core.specs.Calls.{Call, calls_of}
 use Rattle.snap_core.proofs.Lists.{In, Contains-from_In, any_from, any_to}
 use Rattle.snap_core.proofs.Begun.{Compared, alike, first, second, compare_splits, Next, nothing, found, next, Begun, begins, call_at, no_event}
-use Rattle.snap_core.proofs.Histories.{begun_of}
+use Rattle.snap_core.proofs.Ends.{begun_of}
 use Rattle.snap_theory.specs.Kept.{ends_at, is_place_of}
 use Rattle.snap_theory.specs.Choices.{IsChoice, AreChosen}
-use Rattle.snap_theory.specs.Versions.{IsOrdered}
-use Rattle.snap_theory.proofs.Ordered.{are_ordered_calls}
+use Rattle.snap_core.specs.Ordered.{IsOrdered}
+use Rattle.snap_core.proofs.Ordered.{are_ordered_calls}
 
 -- a call by its begin
 same_begun : (es : List Event) (a b : Call) → Contains (calls_of es) a → Contains (calls_of es) b → a.begun ≡ b.begun → a ≡ b

@@ -15,7 +15,8 @@ use Rattle.snap_theory.specs.Faults.{exceeds, read_fault, least_exceeding, integ
 use Rattle.snap_theory.specs.FaultLaws.{FaultsJoin, IsLeastExceeding, ReadFaultHasComponent}
 use Rattle.snap_core.proofs.Lists.{Contains-from_In}
 use Rattle.snap_core.proofs.Begun.{Begun, Next, nothing, found, next, operation_at}
-use Rattle.snap_core.proofs.Histories.{begun_of, in_history}
+use Rattle.snap_core.proofs.Ends.{begun_of}
+use Rattle.snap_core.proofs.Histories.{in_history}
 use Rattle.snap_core.proofs.Facts.{shown_in, shows_positive}
 use Rattle.snap_theory.proofs.Exceeding.{exceeds_to}
 use Rattle.snap_theory.proofs.StaleViews.{stale_joined}

@@ -9,7 +9,8 @@ use Rattle.snap_core.specs.Monotone.{IsMonotone}
 use Rattle.snap_core.specs.Orders.{is_completed, last_written}
 use Rattle.snap_core.specs.Regular.{IsRegular, IsViewOf, IsUpdateOf, IsBegunBeforeEnd}
 use Rattle.snap_core.proofs.Lists.{In, In-from_Contains, Contains-from_In, In-append_left, In-append_right, In-append_cases, Pairs, Pairs-left, Pairs-weaker}
-use Rattle.snap_core.proofs.Facts.{AreCalls, begins_no_later, precedes_to, shown_in, shown_number_at, shown_number_none}
+use Rattle.snap_core.proofs.Facts.{AreCalls, precedes_to, shown_in, shown_number_at, shown_number_none}
+use Rattle.snap_core.proofs.Ordered.{begins_no_later, ordered_calls}
 use Rattle.snap_theory.specs.Windows.{IsRegularFrom}
 use Rattle.snap_theory.specs.Versions.{IsLaterVersion}
 use Rattle.snap_theory.proofs.Last.{LastOf, NoneOf, last_of, later}
@@ -112,7 +113,7 @@ back_more front back x c e u = elim (front_last front back x e.component) [
         let i = Contains-from_In front w.call w.there in
         let p = across front back x w.call c i u.there in
         let z : IsUpdateOf front w.call w.entry = record { there = i; writes = w.writes } in
-        omega (arith, p.before, p.begun, begins_no_later (front ++ back) x.calls c w.call e w.entry (back_update front back c e u) (front_update front back w.call w.entry z) (sym w.component) l)
+        omega (arith, p.before, p.begun, begins_no_later (front ++ back) (ordered_calls (front ++ back) x.calls) c w.call e w.entry (back_update front back c e u) (front_update front back w.call w.entry z) (sym w.component) l)
 
 -- what is left was written: it has a number, and is of its component
 pub left_positive : (front back : List Call) → IsCut front back → (k : ℕ) (l : Entry) → left_of front k ≡ Some l → (0 < l.number) × (l.component ≡ k)

@@ -6,12 +6,12 @@ use Rattle.snap_core.specs.Calls.{calls_of}
 use Rattle.snap_theory.specs.Conditions.{MeetsConditions}
 use Rattle.snap_theory.specs.Faults.{HasNoFault}
 use Rattle.snap_theory.specs.FaultLaws.{RegularExactly, ConditionsExactly}
-use Rattle.snap_theory.specs.Versions.{IsOrdered}
+use Rattle.snap_core.specs.Ordered.{IsOrdered}
 use Rattle.snap_theory.specs.VersionLaws.{OrderedRegularExactly, OrderedConditionsExactly}
 use Rattle.snap_theory.proofs.Local.{local_from_tests, conditions_from_tests, local_tests, all_tests, regular_meets, meets_regular}
 use Rattle.snap_theory.proofs.FaultLists.{tests_from_local, tests_from_none, local_from_passes, none_from_passes}
 use Rattle.snap_core.proofs.Histories.{byte_components}
-use Rattle.snap_theory.proofs.Ordered.{are_ordered_calls, history_is_ordered}
+use Rattle.snap_core.proofs.Ordered.{are_ordered_calls, history_is_ordered}
 
 pub ordered_meets : (events : List Event) → IsOrdered events → HasByteComponents events → HasNoFault (calls_of events) → MeetsConditions (calls_of events)
 ordered_meets es h b n =

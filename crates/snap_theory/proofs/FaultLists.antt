@@ -11,7 +11,7 @@ use Rattle.snap_core.proofs.Lists.{In, In-from_Contains, Contains-from_In, In-fi
 use Rattle.snap_core.proofs.Members.{In-map}
 use Rattle.snap_core.proofs.Facts.{ShowsEntry, shown_in, shows_positive}
 use Rattle.snap_theory.proofs.Local.{PassesLocal, PassesAll, numbered_to}
-use Rattle.snap_theory.proofs.Ordered.{AreOrderedCalls}
+use Rattle.snap_core.proofs.Ordered.{AreOrderedCalls}
 
 filter_fails : {X : Type 0} (p : X → Bool) (xs : List X) → filter p xs ≡ [] → (x : X) → In x xs → p x ≡ false
 filter_fails p xs e x i = false_from_ne_true (p x) (λ t. subst (In x) e (In-filter p xs x i t))

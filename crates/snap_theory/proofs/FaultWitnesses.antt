@@ -2,12 +2,13 @@
 use Rattle.std.proofs.Common.{◌≡◌, ℕ, Bool, true, false, List, refl, sym, ◌∙◌, arith}
 use Rattle.std.proofs.lemmas.Bool.{false≢true, false_from_ne_true}
 use Rattle.snap_core.specs.declared.event.Event.{Event}
-use Rattle.snap_core.specs.Events.{IsBoundedHistory, IsHistory}
+use Rattle.snap_core.specs.Bounded.{IsBoundedOrdered}
+use Rattle.snap_core.specs.Events.{IsHistory}
 use Rattle.snap_core.specs.Calls.{Call, calls_of}
 use Rattle.snap_core.specs.Orders.{IsAtomic}
 use Rattle.snap_core.specs.Regular.{IsRegular}
 use Rattle.snap_core.proofs.Fits.{bytes_of_events}
-use Rattle.snap_theory.proofs.Ordered.{IsFittingHistory, are_ordered_calls, history_is_ordered}
+use Rattle.snap_core.proofs.Ordered.{IsFittingHistory, are_ordered_calls, history_is_ordered, bounded_is_ordered, fitting}
 use Rattle.snap_theory.proofs.Local.{PassesAll, PassesLocal, local_tests, regular_meets}
 use Rattle.snap_theory.proofs.FaultLists.{none_from_passes}
 use Rattle.snap_theory.proofs.OrderLaws.{atomic_in_order_exactly, atomic_is_in_order}
@@ -21,7 +22,8 @@ use Rattle.snap_theory.proofs.Regular.{regular_kept}
 use Rattle.snap_theory.proofs.Sizes.{few_events, few_kept}
 use Rattle.snap_theory.proofs.Witnesses.{keeps_calls, ordered_witness_history, atomic_passes}
 use Rattle.snap_theory.proofs.Write.{write_shows}
-use Rattle.snap_theory.specs.Versions.{IsOrdered, IsAtomicInOrder}
+use Rattle.snap_core.specs.Ordered.{IsOrdered}
+use Rattle.snap_theory.specs.Versions.{IsAtomicInOrder}
 use Rattle.snap_theory.specs.VersionLaws.{OrderedFaultHasWitness, AtomicInOrderWithoutWitness}
 
 pub ordered_not_atomic : (es : List Event) → IsOrdered es → (f : Fault) → IsFaultOf (calls_of es) f → IsAtomicInOrder (calls_of es) → ⊥
@@ -109,13 +111,10 @@ atomic_in_order_without_witness es o fit = (
 
 -- of a history with one writer of each component
 
-fitting : (es : List Event) → IsBoundedHistory es → IsFittingHistory es
-fitting es h = record { ordered = history_is_ordered es h.history; fit = h.fit }
-
 pub each_fault_has_witness : EachFaultHasWitness
-each_fault_has_witness es h = fault_has_witness es (fitting es h)
+each_fault_has_witness es h = fault_has_witness es (fitting es (bounded_is_ordered es h))
 
-pub are_witnesses : (es : List Event) → IsBoundedHistory es → (f : Fault) → IsFaultOf (calls_of es) f → AreWitnesses es (fault_views f) (fault_updates f)
+pub are_witnesses : (es : List Event) → IsBoundedOrdered es → (f : Fault) → IsFaultOf (calls_of es) f → AreWitnesses es (fault_views f) (fault_updates f)
 are_witnesses es h f i = (shows es (fitting es h) f i).are
 
 pub atomic_without_witness : AtomicWithoutWitness

@@ -17,7 +17,7 @@ use Rattle.snap_theory.proofs.Ranks.{Kind, an_update, a_view, kind_of, precedes_
 use Rattle.snap_theory.proofs.Printed.{Earlier, in_printed, to_printed, printed_pairs}
 use Rattle.snap_theory.proofs.Legal.{completed_view}
 use Rattle.snap_theory.proofs.LastWritten.{Writes, last_written_none, last_written_at}
-use Rattle.snap_theory.proofs.Ordered.{AreOrderedCalls}
+use Rattle.snap_core.proofs.Ordered.{AreOrderedCalls}
 
 -- which of two calls stands first settles their ranks and numbers
 not_earlier : (calls : List Call) (a b : Call) → Earlier calls a b → rank calls b ≤ rank calls a → b.number ≤ a.number → ⊥

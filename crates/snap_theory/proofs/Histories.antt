@@ -14,7 +14,7 @@ use Rattle.snap_theory.specs.Kept.{alone, kept_event, kept_from, kept_call}
 use Rattle.snap_theory.specs.Choices.{IsChoice, ChoiceKeepsCalls}
 use Rattle.snap_theory.proofs.Kept.{Whole, kind, calls_begin, calls_end, begin_kept, process_kept, from_kept, from_left, whole_begin, whole_end, whole_head, kept_to, kept_back, precedes_kept}
 use Rattle.snap_theory.specs.VersionLaws.{OrderedChoiceKeepsCalls}
-use Rattle.snap_theory.proofs.Ordered.{history_is_ordered}
+use Rattle.snap_core.proofs.Ordered.{history_is_ordered}
 
 -- calls in turn
 

@@ -13,12 +13,12 @@ use Rattle.snap_theory.proofs.Legal.{Kept, Stands}
 use Rattle.snap_theory.proofs.Orders.{All-from_In}
 
 -- a list of images has a list of origins
-record Origins {X Y : Type 0} (f : X → Y) (xs : List X) (ys : List Y) : Type 0 where
-  list : List X
-  is : map f list ≡ ys
-  there : (x : X) → In x list → In x xs
+pub record Origins {X Y : Type 0} (f : X → Y) (xs : List X) (ys : List Y) : Type 0 where
+  pub list : List X
+  pub is : map f list ≡ ys
+  pub there : (x : X) → In x list → In x xs
 
-origins : {X Y : Type 0} (f : X → Y) (xs : List X) (ys : List Y) → ((y : Y) → In y ys → In y (map f xs)) → Origins f xs ys
+pub origins : {X Y : Type 0} (f : X → Y) (xs : List X) (ys : List Y) → ((y : Y) → In y ys → In y (map f xs)) → Origins f xs ys
 origins f xs [] h = record { list = []; is = refl; there = λ x i. absurd i }
 origins {X} {Y} f xs (y ∷ ys) h = go (In-from_map f xs y (h y (inl refl))) (origins f xs ys (λ z i. h z (inr i)))
   where

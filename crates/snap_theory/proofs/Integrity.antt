@@ -15,7 +15,7 @@ use Rattle.snap_theory.specs.Kept.{alone, kept_operation}
 use Rattle.snap_theory.specs.Witness.{numbers_of, witness_of, in_witness, AreWitnesses}
 use Rattle.snap_theory.proofs.Pairs.{Shows, of_one, one_apart, first_number, witnesses}
 use Rattle.snap_theory.proofs.Witnesses.{origin_of, shown_there, ViewKept, view_there}
-use Rattle.snap_theory.proofs.Ordered.{IsFittingHistory}
+use Rattle.snap_core.proofs.Ordered.{IsFittingHistory}
 
 record Unwritten (calls : List Call) (o : Option Entry) : Type 0 where
   entry : Entry

@@ -11,7 +11,7 @@ use Rattle.snap_core.proofs.Members.{In-from_map, Pairs-map}
 use Rattle.snap_core.proofs.Members.{In-map}
 use Rattle.snap_theory.proofs.Printed.{in_printed, to_printed, printed_pairs}
 use Rattle.snap_theory.proofs.Unique.{same_list}
-use Rattle.snap_theory.proofs.Ordered.{AreOrderedCalls, ordered_calls}
+use Rattle.snap_core.proofs.Ordered.{AreOrderedCalls, ordered_calls}
 
 map_map : {X Y Z : Type 0} (g : Y → Z) (f : X → Y) (xs : List X) → map g (map f xs) ≡ map (λ x. g (f x)) xs
 map_map g f [] = refl

@@ -5,7 +5,7 @@ use Rattle.std.specs.List.{Contains}
 use Rattle.snap_core.specs.Calls.{Call, precedes}
 use Rattle.snap_core.specs.Orders.{is_completed, is_update}
 use Rattle.snap_core.specs.Regular.{IsViewOf}
-use Rattle.snap_theory.proofs.Ordered.{AreOrderedCalls}
+use Rattle.snap_core.proofs.Ordered.{AreOrderedCalls}
 
 -- no later call precedes an earlier one
 abbrev pub Kept : Call → Call → Type 0

@@ -12,7 +12,6 @@ pub mod Windows
 pub mod Sides
 pub mod GoingOn
 mod WorkedWindows
-pub mod Ordered
 pub mod Entries
 pub mod Exceeding
 pub mod Local
@@ -26,6 +25,8 @@ pub mod OrderLaws
 mod WorkedOrders
 mod WorkedVerdicts
 mod WorkedVersions
+pub mod Intervals
+pub mod CutCalls
 pub mod Backward
 pub mod Chain
 pub mod Forward

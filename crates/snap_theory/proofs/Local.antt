@@ -12,7 +12,7 @@ use Rattle.snap_theory.specs.Faults.{writes_entry, is_unwritten, integrity_fault
 use Rattle.snap_core.proofs.Lists.{In, In-from_Contains, Contains-from_In, any_from, any_to}
 use Rattle.snap_core.proofs.Facts.{shown_in, shown_number_at, shows_positive, precedes_to, precedes_from, precedes_later}
 use Rattle.snap_theory.proofs.Exceeding.{exceeds_from, exceeds_to}
-use Rattle.snap_theory.proofs.Ordered.{AreOrderedCalls, before_later, begins_no_later}
+use Rattle.snap_core.proofs.Ordered.{AreOrderedCalls, before_later, begins_no_later}
 
 -- the conditions on one view alone
 pub record MeetsLocal (calls : List Call) : Type 0 where

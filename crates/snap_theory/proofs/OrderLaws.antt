@@ -1,6 +1,13 @@
 -- The laws of orders, put together.
-use Rattle.std.proofs.Common.{sym, subst}
+use Rattle.std.proofs.Common.{◌↔◌, List, sym, subst}
+use Rattle.snap_core.specs.declared.writers.Writers.{Writers}
+use Rattle.snap_core.specs.declared.writers.Writers.TheVariants.{One, Many}
+use Rattle.snap_core.specs.Bounded.{IsHistoryBy}
+use Rattle.snap_core.specs.declared.event.Event.{Event}
+use Rattle.snap_core.specs.Events.{HasByteComponents}
 use Rattle.snap_core.specs.Calls.{calls_of}
+use Rattle.snap_theory.specs.Faults.{HasNoFault}
+use Rattle.snap_theory.specs.Versions.{IsAtomicBy, IsAtomicInOrder, IsLegalBy}
 use Rattle.snap_theory.specs.Levels.{printed_order, IsPrintedOrder}
 use Rattle.snap_theory.proofs.Starts.{start_push, start_back}
 use Rattle.snap_theory.proofs.Keys.{sorted_keys_give_order}
@@ -9,7 +16,7 @@ use Rattle.snap_theory.specs.OrderLaws.{PrintsLegalOrder, LegalOrderHasNoFault, 
 use Rattle.snap_theory.proofs.Forward.{printed_legal}
 use Rattle.snap_theory.proofs.Backward.{legal_meets}
 use Rattle.snap_theory.proofs.FaultLaws.{ordered_meets, none_from_meets}
-use Rattle.snap_theory.proofs.Ordered.{are_ordered_calls, history_is_ordered}
+use Rattle.snap_core.proofs.Ordered.{are_ordered_calls, history_is_ordered}
 use Rattle.snap_theory.proofs.Orders.{legal_in_order}
 use Rattle.snap_theory.specs.VersionLaws.{OrderedPrintsLegalOrder, LegalInOrderHasNoFault, AtomicInOrderExactly, AtomicInOrderIsMonotone, OrderedPrintedAlone, OrderedKeysGiveOrder, LegalOrdersRise, AtomicIsInOrder}
 use Rattle.snap_theory.proofs.StaleViews.{monotone_without_read_fault}
@@ -65,3 +72,18 @@ printed_order_alone es h = ordered_printed_alone es (history_is_ordered es h)
 
 pub keys_give_order_law : KeysGiveOrder
 keys_give_order_law es h = ordered_keys_give_order es (history_is_ordered es h)
+
+-- by how many processes may write a component
+
+pub atomic_by_exactly : (writers : Writers) (es : List Event) → IsHistoryBy writers es → HasByteComponents es → IsAtomicBy writers (calls_of es) ↔ HasNoFault (calls_of es)
+atomic_by_exactly One es h b = atomic_exactly es h b
+atomic_by_exactly Many es h b = atomic_in_order_exactly es h b
+
+pub prints_legal_by : (writers : Writers) (es : List Event) → IsHistoryBy writers es → HasByteComponents es → HasNoFault (calls_of es) → IsLegalBy writers (calls_of es) (printed_order (calls_of es))
+prints_legal_by One es h b n = prints_legal_order es h b n
+prints_legal_by Many es h b n = ordered_prints_legal_order es h b n
+
+-- atomic in order is what it is by the writers
+pub in_order_by : (writers : Writers) (es : List Event) → IsHistoryBy writers es → IsAtomicInOrder (calls_of es) ↔ IsAtomicBy writers (calls_of es)
+in_order_by One es h = atomic_is_in_order es h
+in_order_by Many es h = (λ a. a, λ a. a)

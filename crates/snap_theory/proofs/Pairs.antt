@@ -10,7 +10,7 @@ use Rattle.snap_theory.proofs.Exceeding.{exceeds_from}
 use Rattle.snap_theory.specs.FaultWitnesses.{Fault, fault_views, call_limit, is_local, HasFaultKept}
 use Rattle.snap_theory.specs.Witness.{numbers_of, updates_kept, witness_calls, witness_of, in_witness, AreWitnesses}
 use Rattle.snap_theory.proofs.Witnesses.{few_calls, shows_one, shows_none}
-use Rattle.snap_theory.proofs.Ordered.{IsFittingHistory}
+use Rattle.snap_core.proofs.Ordered.{IsFittingHistory}
 
 -- no view shows more of a component than the number it is paired with
 abbrev pub Covers : List Call → List (ℕ × ℕ) → Type 0

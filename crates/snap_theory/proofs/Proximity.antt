@@ -11,7 +11,7 @@ use Rattle.snap_theory.specs.FaultWitnesses.{Old, Early, fault_updates}
 use Rattle.snap_theory.specs.Witness.{witness_of, in_witness, AreWitnesses}
 use Rattle.snap_theory.proofs.Pairs.{Shows, of_one, one_apart, first_number, witnesses}
 use Rattle.snap_theory.proofs.Witnesses.{shows_one, shows_none, precedence_there, view_place, update_place, ViewKept, view_there, UpdateKept, update_there}
-use Rattle.snap_theory.proofs.Ordered.{IsFittingHistory, are_ordered_calls}
+use Rattle.snap_core.proofs.Ordered.{IsFittingHistory, are_ordered_calls}
 
 one_view : (es : List Event) (r : Call) (k n : ℕ) → IsViewOf (calls_of es) r → AreWitnesses es (r ∷ []) ((k, n) ∷ [])
 one_view es r k n v = witnesses es (r ∷ []) ((k, n) ∷ []) (of_one (IsViewOf (calls_of es)) r v) (one_apart k n)

@@ -14,7 +14,7 @@ use Rattle.snap_theory.specs.Witness.{numbers_of, in_witness, AreWitnesses}
 use Rattle.snap_theory.proofs.Pairs.{Shows, Covers, of_two, one_apart, two_apart, first_number, second_number, witnesses, covers_one, covers_two, more_there}
 use Rattle.snap_theory.proofs.Components.{fit_views}
 use Rattle.snap_theory.proofs.Witnesses.{precedence_there, view_place, ViewKept, view_there}
-use Rattle.snap_theory.proofs.Ordered.{IsFittingHistory}
+use Rattle.snap_core.proofs.Ordered.{IsFittingHistory}
 
 -- the least component of which r shows more than s
 record Excess (r s : Call) : Type 0 where

@@ -20,7 +20,7 @@ use Rattle.snap_theory.proofs.Shown.{shown_kept, shown_left, shown_nothing}
 use Rattle.snap_theory.proofs.Pairs.{Covers}
 use Rattle.snap_theory.proofs.Witnesses.{keeps_calls, are_chosen, update_place, chosen_view}
 use Rattle.snap_theory.proofs.Components.{fit_views}
-use Rattle.snap_theory.proofs.Ordered.{IsFittingHistory, are_ordered_calls}
+use Rattle.snap_core.proofs.Ordered.{IsFittingHistory, are_ordered_calls}
 
 -- a view of the witness was a view
 view_was : (numbers : ℕ → ℕ) (o : Operation) → is_answer (kept_operation numbers o) ≡ true → is_answer o ≡ true

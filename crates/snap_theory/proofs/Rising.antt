@@ -14,7 +14,7 @@ use Rattle.snap_theory.proofs.Entries.{AreSorted, sorted, sorted_tail, above}
 use Rattle.snap_theory.proofs.Local.{numbered_to}
 use Rattle.snap_theory.proofs.Components.{fit_views}
 use Rattle.snap_theory.proofs.FaultLists.{from_views}
-use Rattle.snap_theory.proofs.Ordered.{AreOrderedCalls, are_ordered_calls, history_is_ordered}
+use Rattle.snap_core.proofs.Ordered.{AreOrderedCalls, are_ordered_calls, history_is_ordered}
 use Rattle.snap_theory.specs.VersionLaws.{OrderedFaultsRise, OrderedUpdatesAreAlone}
 
 -- lists that are made of others

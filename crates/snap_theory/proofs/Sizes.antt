@@ -13,8 +13,8 @@ use Rattle.snap_theory.specs.Witness.{numbers_of, witness_calls, witness_of, Are
 use Rattle.snap_theory.proofs.Chosen.{ends_true}
 use Rattle.snap_theory.proofs.Kept.{from_kept, from_left, kind, begin_kept, end_kept, calls_begin, calls_end}
 use Rattle.snap_theory.proofs.Witnesses.{are_chosen}
-use Rattle.snap_theory.specs.Versions.{IsOrdered}
-use Rattle.snap_theory.proofs.Ordered.{end_event, there_ends}
+use Rattle.snap_core.specs.Ordered.{IsOrdered}
+use Rattle.snap_core.proofs.Ends.{end_event, there_ends}
 
 -- how many of n places from one on pass
 abbrev count_from : (ℕ → Bool) → ℕ → ℕ → ℕ

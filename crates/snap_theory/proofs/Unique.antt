@@ -4,7 +4,7 @@ use Rattle.snap_core.specs.Calls.{Call}
 use Rattle.snap_theory.specs.Levels.{printed_order, StandsBefore, IsPrintedOrder}
 use Rattle.snap_core.proofs.Lists.{In, In-from_Contains, Contains-from_In, Pairs, Pairs-from_AllPairs, AllPairs-from_Pairs}
 use Rattle.snap_theory.proofs.Printed.{in_printed, to_printed, printed_pairs}
-use Rattle.snap_theory.proofs.Ordered.{AreOrderedCalls}
+use Rattle.snap_core.proofs.Ordered.{AreOrderedCalls}
 
 pub same_list : {X : Type 0} (R : X → X → Type 0) → ((x y : X) → R x y → R y x → ⊥) → (xs ys : List X) → Pairs R xs → Pairs R ys → ((x : X) → In x xs → In x ys) → ((x : X) → In x ys → In x xs) → xs ≡ ys
 same_list R asym [] [] p q f g = refl

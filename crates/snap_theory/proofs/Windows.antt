@@ -11,7 +11,7 @@ use Rattle.snap_core.specs.Orders.{IsAtomic, is_completed}
 use Rattle.snap_core.specs.Regular.{IsRegular, IsViewOf}
 use Rattle.snap_core.proofs.Lists.{In, Contains-from_In}
 use Rattle.snap_core.proofs.Begun.{begins}
-use Rattle.snap_core.proofs.Histories.{answered_part}
+use Rattle.snap_core.proofs.Ends.{answered_part}
 use Rattle.snap_theory.specs.Windows.{IsQuiet, left_by}
 use Rattle.snap_theory.specs.WindowLaws.{RegularRenumbered, MonotoneRenumbered, AtomicRenumbered}
 use Rattle.snap_theory.proofs.Empty.{atomic_from_nothing}

@@ -21,8 +21,9 @@ use Rattle.snap_theory.proofs.Histories.{ordered_choice_keeps_calls}
 use Rattle.snap_theory.proofs.Chosen.{chosen_is_choice, begun_chosen}
 use Rattle.snap_theory.proofs.Shown.{shown_kept, shown_left, is_view_kept}
 use Rattle.snap_theory.proofs.Components.{fit_views}
-use Rattle.snap_theory.specs.Versions.{IsOrdered, IsAtomicInOrder}
-use Rattle.snap_theory.proofs.Ordered.{IsFittingHistory, are_ordered_calls, history_is_ordered}
+use Rattle.snap_core.specs.Ordered.{IsOrdered}
+use Rattle.snap_theory.specs.Versions.{IsAtomicInOrder}
+use Rattle.snap_core.proofs.Ordered.{IsFittingHistory, are_ordered_calls, history_is_ordered}
 
 pub find_there : {X : Type 0} (f : X → Bool) (xs : List X) (c : X) → In c xs → f c ≡ true → (y : X) × (find f xs ≡ Some y)
 find_there f [] c i t = absurd i

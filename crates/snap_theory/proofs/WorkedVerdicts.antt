@@ -16,10 +16,11 @@ use Rattle.snap_core.specs.Regular.{IsRegular}
 use Rattle.snap_theory.specs.Faults.{HasNoLocalFault, exceeds, integrity_fault, old_fault, early_fault, read_fault, write_fault, integrity_faults, proximity_faults, read_faults, write_faults, is_stale, stale_count}
 use Rattle.snap_core.proofs.Worked as worked
 use Rattle.snap_core.proofs.WorkedHistories as histories
-use Rattle.snap_theory.specs.Versions.{IsOrdered, IsAtomicInOrder}
+use Rattle.snap_core.specs.Ordered.{IsOrdered}
+use Rattle.snap_theory.specs.Versions.{IsAtomicInOrder}
 use Rattle.snap_theory.proofs.FaultLaws.{ordered_regular_exactly}
 use Rattle.snap_theory.proofs.OrderLaws.{atomic_in_order_exactly, atomic_is_in_order}
-use Rattle.snap_theory.proofs.Ordered.{history_is_ordered}
+use Rattle.snap_core.proofs.Ordered.{history_is_ordered}
 use Rattle.snap_theory.proofs.StaleViews.{monotone_exactly}
 
 -- a list of events is an ordered history, and regular, monotone and atomic in order exactly where these are true

@@ -12,7 +12,7 @@ use Rattle.snap_core.specs.Orders.{IsLegalOrder, IsAtomic, is_completed, is_upda
 use Rattle.snap_core.specs.Regular.{IsViewOf, IsUpdateOf, IsRegular}
 use Rattle.snap_core.proofs.Lists.{In, In-from_Contains, Contains-from_In, In-from_filter, Pairs, AllPairs-from_Pairs}
 use Rattle.snap_core.proofs.Worked.{entry}
-use Rattle.snap_theory.specs.Versions.{EndInOrder, IsOrdered}
+use Rattle.snap_core.specs.Ordered.{EndInOrder, IsOrdered}
 use Rattle.snap_theory.specs.Faults.{HasNoFault, HasNoLocalFault, integrity_fault, old_fault, early_fault, integrity_faults, proximity_faults}
 use Rattle.snap_theory.proofs.Legal.{Stands}
 use Rattle.snap_theory.proofs.Orders.{All-from_In}

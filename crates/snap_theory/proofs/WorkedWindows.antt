@@ -149,8 +149,8 @@ the_whole_is_not_regular h = let u = h.not_early the_view 0 (entry 0 1 7) view_o
 
 the_whole_is_a_history : IsHistory (an_open_view ++ its_end)
 the_whole_is_a_history =
-    history_push (BeginView 1 ∷ []) (EndView 1 (entry 0 1 7 ∷ [])) (history_push [] (BeginView 1) history_nil (record { not_busy = refl; not_idle = refl; not_other = refl; writer = refl; number = refl }))
-    (record { not_busy = refl; not_idle = refl; not_other = refl; writer = refl; number = refl })
+    history_push (BeginView 1 ∷ []) (EndView 1 (entry 0 1 7 ∷ [])) (history_push [] (BeginView 1) history_nil (record { not_busy = refl; not_idle = refl; not_other = refl; writer = refl; number = refl; order = refl }))
+    (record { not_busy = refl; not_idle = refl; not_other = refl; writer = refl; number = refl; order = refl })
 
 nothing_written : (xs : List Call) → ((c : Call) → In c xs → the_view ≡ c) → (k : ℕ) → last_written k None xs ≡ None
 nothing_written [] h k = refl
@@ -179,10 +179,10 @@ the_cut_is_in_a_history =
     history_push (BeginUpdate 0 (entry 0 1 7) ∷ EndUpdate 0 ∷ BeginView 1 ∷ []) (EndView 1 [])
     (history_push (BeginUpdate 0 (entry 0 1 7) ∷ EndUpdate 0 ∷ []) (BeginView 1)
     (history_push (BeginUpdate 0 (entry 0 1 7) ∷ []) (EndUpdate 0)
-    (history_push [] (BeginUpdate 0 (entry 0 1 7)) history_nil (record { not_busy = refl; not_idle = refl; not_other = refl; writer = refl; number = refl }))
-    (record { not_busy = refl; not_idle = refl; not_other = refl; writer = refl; number = refl }))
-    (record { not_busy = refl; not_idle = refl; not_other = refl; writer = refl; number = refl }))
-    (record { not_busy = refl; not_idle = refl; not_other = refl; writer = refl; number = refl })
+    (history_push [] (BeginUpdate 0 (entry 0 1 7)) history_nil (record { not_busy = refl; not_idle = refl; not_other = refl; writer = refl; number = refl; order = refl }))
+    (record { not_busy = refl; not_idle = refl; not_other = refl; writer = refl; number = refl; order = refl }))
+    (record { not_busy = refl; not_idle = refl; not_other = refl; writer = refl; number = refl; order = refl }))
+    (record { not_busy = refl; not_idle = refl; not_other = refl; writer = refl; number = refl; order = refl })
 
 a_view_of_less_than_was_left_is_a_fault_of_the_whole : IsRegular (calls_of (an_update ++ a_stale_view)) → ⊥
 a_view_of_less_than_was_left_is_a_fault_of_the_whole r =

@@ -13,8 +13,8 @@ use Rattle.snap_theory.specs.FaultWitnesses.{Write, fault_updates}
 use Rattle.snap_theory.specs.Witness.{witness_of, in_witness, AreWitnesses}
 use Rattle.snap_theory.proofs.Pairs.{Shows, Covers, of_one, two_apart, first_number, second_number, witnesses, covers_two}
 use Rattle.snap_theory.proofs.Witnesses.{shows_one, shows_none, precedence_there, update_place, ViewKept, view_there, UpdateKept, update_there}
-use Rattle.snap_theory.specs.Versions.{IsOrdered}
-use Rattle.snap_theory.proofs.Ordered.{IsFittingHistory, are_ordered_calls}
+use Rattle.snap_core.specs.Ordered.{IsOrdered}
+use Rattle.snap_core.proofs.Ordered.{IsFittingHistory, are_ordered_calls}
 
 -- the missed and the shown update are of two components
 apart_of_write : (es : List Event) → IsOrdered es → (a b : Call) (j k m n : ℕ) → IsNumbered (calls_of es) j m a → IsNumbered (calls_of es) k n b → precedes a b ≡ true → (j ≡ k → n < m) → j ≢ k

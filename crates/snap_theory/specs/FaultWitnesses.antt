@@ -1,7 +1,7 @@
 -- The faults of a history one by one, and the witness of each.
 use Rattle.std.specs.Prelude.{ℕ, suc, ◌≤◌, ◌*◌, Bool, true, false, List, [], ◌∷◌, ◌++◌, ◌≡◌, ◌↔◌, Option, Some, None, length, if◌then◌else◌}
 use Rattle.snap_core.specs.declared.event.Event.{Event}
-use Rattle.snap_core.specs.Events.{IsBoundedHistory}
+use Rattle.snap_core.specs.Bounded.{IsBoundedHistory}
 use Rattle.snap_core.specs.Calls.{Call, calls_of, precedes, shown_number}
 use Rattle.snap_core.specs.Orders.{IsAtomic}
 use Rattle.snap_core.specs.Regular.{IsViewOf, IsRegular}

@@ -8,6 +8,7 @@ pub mod KeyOrder
 pub mod Updates
 pub mod Versions
 pub mod VersionLaws
+pub mod Intervals
 pub mod FaultLaws
 pub mod Levels
 pub mod Keys

@@ -13,7 +13,8 @@ use Rattle.snap_theory.specs.Faults.{HasNoLocalFault, HasNoFault}
 use Rattle.snap_theory.specs.Keys.{AreSortedKeys}
 use Rattle.snap_theory.specs.Levels.{printed_order, IsPrintedOrder}
 use Rattle.snap_theory.specs.Rising.{FaultsRise}
-use Rattle.snap_theory.specs.Versions.{IsOrdered, IsLegalInOrder, IsAtomicInOrder}
+use Rattle.snap_core.specs.Ordered.{IsOrdered}
+use Rattle.snap_theory.specs.Versions.{IsLegalInOrder, IsAtomicInOrder}
 
 -- a history, with one writer of each component, is ordered
 abbrev pub HistoriesAreOrdered : Type 0

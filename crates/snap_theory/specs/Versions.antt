@@ -1,26 +1,10 @@
--- Histories with several writers of a component, whose numbers are versions, and orders that keep the versions rising.
-use Rattle.std.specs.Prelude.{ℕ, true, List, ◌≡◌, ◌<◌, Some, AllPairs}
+-- Orders of the calls of an ordered history that keep the versions rising.
+use Rattle.std.specs.Prelude.{List, ◌≡◌, ◌<◌, AllPairs}
 use Rattle.snap_core.specs.declared.entry.Entry.{Entry}
-use Rattle.snap_core.specs.declared.event.Event.{Event}
-use Rattle.snap_core.specs.Events.{IsWellFormed, IsNumbered}
-use Rattle.snap_core.specs.Calls.{Call, Updates, calls_of, is_before}
-use Rattle.snap_core.specs.Orders.{IsLegalOrder}
-use Rattle.snap_core.specs.Regular.{IsUpdateOf}
-
--- of two updates of a component, the lower number has ended before the higher one ends; if it is pending, so is the higher one
-abbrev pub EndInOrder : List Call → Type 0
-EndInOrder calls =
-    (a b : Call) (d e : Entry) (place : ℕ) → IsUpdateOf calls a d → IsUpdateOf calls b e → d.component ≡ e.component → d.number < e.number →
-    b.ended ≡ Some place → is_before a.ended place ≡ true
-
--- a history whose updates of a component begin and end in the order of their numbers. They may overlap, and several processes
--- may write a component (Anderson 1994). The numbers are versions, and their order is the version order of multiversion
--- concurrency control (Bernstein and Goodman 1983)
-pub record IsOrdered (es : List Event) : Type 0 where
-  pub well_formed : IsWellFormed es
-  -- the numbers count the updates as they begin
-  pub numbered : IsNumbered es
-  pub in_order : EndInOrder (calls_of es)
+use Rattle.snap_core.specs.Calls.{Call, Updates}
+use Rattle.snap_core.specs.declared.writers.Writers.{Writers}
+use Rattle.snap_core.specs.declared.writers.Writers.TheVariants.{One, Many}
+use Rattle.snap_core.specs.Orders.{IsAtomic, IsLegalOrder}
 
 -- of two updates of a component, b has the greater number
 abbrev pub IsLaterVersion : Call → Call → Type 0
@@ -34,3 +18,13 @@ pub record IsLegalInOrder (calls order : List Call) : Type 0 where
 -- linearizable, by an order that keeps the version order
 abbrev pub IsAtomicInOrder : List Call → Type 0
 IsAtomicInOrder calls = (order : List Call) × IsLegalInOrder calls order
+
+-- a legal order, of versions too where there are many writers
+abbrev pub IsLegalBy : Writers → List Call → List Call → Type 0
+IsLegalBy One calls order = IsLegalOrder calls order
+IsLegalBy Many calls order = IsLegalInOrder calls order
+
+-- atomic, by versions too where there are many writers
+abbrev pub IsAtomicBy : Writers → List Call → Type 0
+IsAtomicBy One calls = IsAtomic calls
+IsAtomicBy Many calls = IsAtomicInOrder calls

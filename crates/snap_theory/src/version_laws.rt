@@ -1,4 +1,5 @@
 //! Laws of ordered histories: several processes may write a component, and its updates begin and end in the order of their numbers.
+ghost use Rattle.snap_theory.specs.Intervals.{CuttingKeepsAtomic, NothingLeftIsNotAtomic, CutCallsAreInOrder};
 ghost use Rattle.snap_theory.specs.VersionLaws.{HistoriesAreOrdered, LegalOrdersRise, AtomicIsInOrder, OrderedPrintsLegalOrder, LegalInOrderHasNoFault, AtomicInOrderExactly, OrderedConditionsExactly, OrderedRegularExactly, AtomicInOrderIsMonotone, OrderedPrintedAlone, OrderedKeysGiveOrder, OrderedUpdatesAreAlone, OrderedFaultsRise, OrderedChoiceKeepsCalls, OrderedFaultHasWitness, AtomicInOrderWithoutWitness};
 
 /// A history, with one writer of each component, is ordered. In each of its legal orders the numbers of each component rise, so
@@ -43,4 +44,13 @@ pub fn ordered_faults_have_witnesses()
     ensures calls { OrderedChoiceKeepsCalls }
     ensures each { OrderedFaultHasWitness }
     ensures atomic { AtomicInOrderWithoutWitness }
+{}
+
+/// A store may tell the order of updates that overlap, or end out of order. If each of them is cut to the times that this order allows,
+/// the calls stay atomic in order, or stay not so. If nothing is left of one, they are not. Once they are cut, the updates of a
+/// component begin and end in the order of their numbers.
+pub fn cutting_keeps_atomic()
+    ensures atomic { CuttingKeepsAtomic }
+    ensures nothing_left { NothingLeftIsNotAtomic }
+    ensures in_order { CutCallsAreInOrder }
 {}

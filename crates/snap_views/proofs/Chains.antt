@@ -12,7 +12,8 @@ use Rattle.std.proofs.lemmas.List.Sorted.{All-permutation, Contains-permutation,
 use Rattle.std.proofs.lemmas.Map.Keys.{IsDistinct-from_apart}
 use Rattle.snap_core.specs.declared.entry.Entry.{Entry}
 use Rattle.snap_core.specs.declared.event.Event.{Event}
-use Rattle.snap_core.specs.Events.{IsBoundedHistory, event_cap}
+use Rattle.snap_core.specs.Bounded.{IsBoundedOrdered}
+use Rattle.snap_core.specs.Events.{event_cap}
 use Rattle.snap_core.specs.Calls.{Call, calls_of, entries_of, views_of, shown_number, nobody}
 use Rattle.snap_core.specs.Regular.{IsViewOf}
 use Rattle.snap_core.proofs.Fits.{bytes_of_events}
@@ -96,7 +97,7 @@ comparable_from calls keys p c r s v w x = order (stands_at calls keys p r v) (s
     ]
 
 -- of views of which this is so none shows a component above that of one with no smaller sum
-pub no_more_by_sum : (es : List Event) → IsBoundedHistory es → AreComparable (calls_of es) → (r s : Call) → IsViewOf (calls_of es) r → IsViewOf (calls_of es) s → shown_sum r ≤ shown_sum s → exceeds r s ≡ false
+pub no_more_by_sum : (es : List Event) → IsBoundedOrdered es → AreComparable (calls_of es) → (r s : Call) → IsViewOf (calls_of es) r → IsViewOf (calls_of es) s → shown_sum r ≤ shown_sum s → exceeds r s ≡ false
 no_more_by_sum es kept c r s v w l = false_from_ne_true (exceeds r s) (λ x.
     let less = smaller s r (byte_views es (bytes_of_events es kept.fit) r v.there) (c r s v w x) x in
     absurd (omega (arith, less, l)))
@@ -105,7 +106,7 @@ pub view_is : (calls : List Call) (place : ℕ) → place < length (views_of cal
 view_is calls place l = from_views calls (view_in calls place) (In-get_or (views_of calls) place nobody l)
 
 -- so that sorted views climb
-pub climbs_from : (es : List Event) → IsBoundedHistory es → AreComparable (calls_of es) → (keys : List (ℕ × ℕ)) → All (IsSummed (calls_of es)) keys → AllPairs KeyLess keys → Climbs (calls_of es) keys (length keys)
+pub climbs_from : (es : List Event) → IsBoundedOrdered es → AreComparable (calls_of es) → (keys : List (ℕ × ℕ)) → All (IsSummed (calls_of es)) keys → AllPairs KeyLess keys → Climbs (calls_of es) keys (length keys)
 climbs_from es kept c keys all sorted = record {
   each = λ i d l.
       let a = all i d (omega (arith, l)) in
@@ -146,21 +147,21 @@ places_distinct calls = IsDistinct-from_apart eqb (seconds (summed_views calls))
     ne_eqb _ _ (λ e. let p = at i (omega (arith, l, m, count)) in let q = at j (omega (arith, m, count)) in absurd (omega (arith, p, q, e, l))))
 
 -- 256 numbers of 32 bits each
-small_sum : (es : List Event) → IsBoundedHistory es → (r : Call) → IsViewOf (calls_of es) r → shown_sum r ≤ 1099511627520
+small_sum : (es : List Event) → IsBoundedOrdered es → (r : Call) → IsViewOf (calls_of es) r → shown_sum r ≤ 1099511627520
 small_sum es kept r v =
     let shape = fit_views es kept.fit r v.there in
     let few = rising_few (entries_of r.operation) shape.rising (λ j d l. (shape.fit j d l).0) in
     let most = sum_by-le (λ (e : Entry). e.number) 4294967295 (entries_of r.operation) (λ j d l. let number = (shape.fit j d l).1 in omega (arith, number)) in
     omega (arith, sum_is r shape, most, few)
 
-joined_is : (es : List Event) → IsBoundedHistory es → (key : ℕ × ℕ) → IsSummed (calls_of es) key → joined key ≡ as_one event_cap key
+joined_is : (es : List Event) → IsBoundedOrdered es → (key : ℕ × ℕ) → IsSummed (calls_of es) key → joined key ≡ as_one event_cap key
 joined_is es kept key s =
     let small = small_sum es kept (view_in (calls_of es) key.1) (view_is (calls_of es) key.1 s.0) in
     let sum : key.0 * event_cap < 18446744073709551616 = omega (arith, small, s.1) in
     let both : key.0 * event_cap + key.1 < 18446744073709551616 = omega (arith, small, s.1, s.0, few_views es kept) in
     ap (λ z. (z + key.1) % 18446744073709551616) (mod-eq_of_lt sum) ∙ mod-eq_of_lt both
 
-pub sorted_views : (es : List Event) → IsBoundedHistory es → (keys : List (ℕ × ℕ)) → IsPermutation (summed_views (calls_of es)) keys → IsNonDecreasingBy joined keys → AllPairs KeyLess keys
+pub sorted_views : (es : List Event) → IsBoundedOrdered es → (keys : List (ℕ × ℕ)) → IsPermutation (summed_views (calls_of es)) keys → IsNonDecreasingBy joined keys → AllPairs KeyLess keys
 sorted_views es kept keys p up =
     let calls = calls_of es in
     let all = all_summed calls keys p in

@@ -9,7 +9,7 @@ use Rattle.std.proofs.lemmas.List.Sums.{sum_by-cons}
 use Rattle.snap_core.specs.declared.entry.Entry.{Entry}
 use Rattle.snap_core.specs.declared.event.Event.{Event}
 use Rattle.snap_core.specs.Entries.{AreEntries, number_in}
-use Rattle.snap_core.specs.Events.{IsBoundedHistory}
+use Rattle.snap_core.specs.Bounded.{IsBoundedOrdered}
 use Rattle.snap_core.specs.Calls.{Call, calls_of, entries_of, shown_number}
 use Rattle.snap_views.specs.inside.Chains.{IsSummed, Climbs}
 use Rattle.snap_views.specs.Quick.{shown_sum}
@@ -162,7 +162,7 @@ pub sum_taken : (r : Call) (numbers : List ℕ) (ds : List Entry) → ds ≡ ent
 sum_taken r numbers ds e h = shown_sum_of_row r numbers (λ k l. h k l ∙ seen_number r ds k e)
 
 -- where the row is below the next view, one more view climbs
-pub one_climbs : (es : List Event) → IsBoundedHistory es → (keys : List (ℕ × ℕ)) → All (IsSummed (calls_of es)) keys → (n : ℕ) (numbers : List ℕ) (ds : List Entry) → n < length keys → IsRowOfLast (calls_of es) keys n numbers →
+pub one_climbs : (es : List Event) → IsBoundedOrdered es → (keys : List (ℕ × ℕ)) → All (IsSummed (calls_of es)) keys → (n : ℕ) (numbers : List ℕ) (ds : List Entry) → n < length keys → IsRowOfLast (calls_of es) keys n numbers →
     ds ≡ entries_of (view_in (calls_of es) (get_or keys n (0, 0)).1).operation → ((k : ℕ) → k < 256 → row_number numbers k ≤ number_among ds k) → Climbs (calls_of es) keys n → Climbs (calls_of es) keys (n + 1)
 one_climbs es kept keys all n numbers ds l row e below c = record {
   each = λ i d m. elim (cases_eq (suc i) n) [

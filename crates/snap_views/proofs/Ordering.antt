@@ -6,11 +6,12 @@ use Rattle.std.proofs.lemmas.Bool.{cases_lt, cases_eq}
 use Rattle.std.proofs.lemmas.List.{get_or_default}
 use Rattle.std.proofs.lemmas.Option.{slice_get_within}
 use Rattle.snap_core.specs.declared.event.Event.{Event}
-use Rattle.snap_core.specs.Events.{IsBoundedHistory}
+use Rattle.snap_core.specs.Bounded.{IsBoundedOrdered}
 use Rattle.snap_core.specs.Calls.{Call, calls_of, views_of, precedes, nobody}
 use Rattle.snap_core.specs.Regular.{IsViewOf}
 use Rattle.snap_core.proofs.Facts.{precedes_to, precedes_from}
-use Rattle.snap_core.proofs.Histories.{are_calls, call_end}
+use Rattle.snap_core.proofs.Ordered.{are_ordered_calls}
+use Rattle.snap_core.proofs.Ends.{call_end}
 use Rattle.snap_core.proofs.Lists.{Contains-from_In}
 use Rattle.snap_views.specs.Quick.{shown_sum, AreOrdered}
 use Rattle.snap_views.specs.Seen.{view_in}
@@ -112,18 +113,18 @@ pub record ViewPlaces (es : List Event) (r : Call) : Type 0 where
   pub begins : r.begun < ended
   pub within : ended < length es
 
-pub view_places : (es : List Event) → IsBoundedHistory es → (r : Call) → IsViewOf (calls_of es) r → ViewPlaces es r
+pub view_places : (es : List Event) → IsBoundedOrdered es → (r : Call) → IsViewOf (calls_of es) r → ViewPlaces es r
 view_places es kept r v =
-    let facts = are_calls es kept.history in
+    let facts = are_ordered_calls es kept.history in
     let e = facts.answered r v in
-    let at = call_end es kept.history r e.place v.there e.ends in
+    let at = call_end es kept.history.well_formed r e.place v.there e.ends in
     record { ended = e.place; ends = e.ends; begins = facts.rises r e.place v.there e.ends; within = slice_get_within es e.place at.event at.there }
 
 -- no completed view with a greater sum precedes a call
 abbrev pub NoneAbove : List Call → Call → Type 0
 NoneAbove calls s = (r : Call) → IsViewOf calls r → precedes r s ≡ true → shown_sum r ≤ shown_sum s
 
-pub none_above : (es : List Event) → IsBoundedHistory es → (n : ℕ) (sums : List ℕ) (s : Call) → n ≡ length (views_of (calls_of es)) → length sums ≡ length es + 1 → IsSwept (calls_of es) n (length sums) sums → IsViewOf (calls_of es) s → get_or sums s.begun 0 ≤ shown_sum s → NoneAbove (calls_of es) s
+pub none_above : (es : List Event) → IsBoundedOrdered es → (n : ℕ) (sums : List ℕ) (s : Call) → n ≡ length (views_of (calls_of es)) → length sums ≡ length es + 1 → IsSwept (calls_of es) n (length sums) sums → IsViewOf (calls_of es) s → get_or sums s.begun 0 ≤ shown_sum s → NoneAbove (calls_of es) s
 none_above es kept n sums s e size h w l r v p =
     let x = precedes_to r s p in
     let y = view_places es kept s w in
@@ -133,7 +134,7 @@ none_above es kept n sums s e size h w l r v p =
     let most = h.most i.0 x.place s.begun (omega (arith, i.1, e)) (ap (λ (z : Call). z.ended) is ∙ x.ends) x.before within (λ z. absurd (omega (arith, z, within))) in
     omega (arith, most, l, ap shown_sum is)
 
-pub some_above : (es : List Event) → IsBoundedHistory es → (n reached : ℕ) (sums : List ℕ) (s : Call) → length sums ≡ length es + 1 → IsSwept (calls_of es) n reached sums → IsViewOf (calls_of es) s → shown_sum s < get_or sums s.begun 0 → ¬ AreOrdered (calls_of es)
+pub some_above : (es : List Event) → IsBoundedOrdered es → (n reached : ℕ) (sums : List ℕ) (s : Call) → length sums ≡ length es + 1 → IsSwept (calls_of es) n reached sums → IsViewOf (calls_of es) s → shown_sum s < get_or sums s.begun 0 → ¬ AreOrdered (calls_of es)
 some_above es kept n reached sums s size h w l o =
     let y = view_places es kept s w in
     elim (h.some s.begun (omega (arith, y.begins, y.within, size))) [

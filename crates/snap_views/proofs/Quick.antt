@@ -6,7 +6,7 @@ use Rattle.std.proofs.lemmas.List.Elements.{All-contains}
 use Rattle.std.proofs.lemmas.List.Sums.{sum_by-cons, sum_by-le-sum_by}
 use Rattle.snap_core.specs.declared.event.Event.{Event}
 use Rattle.snap_core.specs.Entries.{HasByteComponent}
-use Rattle.snap_core.specs.Events.{IsBoundedHistory}
+use Rattle.snap_core.specs.Bounded.{IsBoundedOrdered}
 use Rattle.snap_core.specs.Calls.{Call, calls_of, views_of, precedes, shown_number, entries_of}
 use Rattle.snap_core.proofs.Lists.{In, Contains-from_In}
 use Rattle.snap_core.proofs.Facts.{shown_in, shows_positive}
@@ -73,8 +73,8 @@ no_read_fault_exactly es b = (
 
 -- the same of a history
 
-pub none_by_test : (es : List Event) → IsBoundedHistory es → AreComparable (calls_of es) → AreOrdered (calls_of es) → read_faults (calls_of es) (views_of (calls_of es)) ≡ []
+pub none_by_test : (es : List Event) → IsBoundedOrdered es → AreComparable (calls_of es) → AreOrdered (calls_of es) → read_faults (calls_of es) (views_of (calls_of es)) ≡ []
 none_by_test es kept c o = (no_read_fault_exactly es (bytes_of_events es kept.fit)).1 (record { comparable = c; ordered = o })
 
-pub test_by_none : (es : List Event) → IsBoundedHistory es → read_faults (calls_of es) (views_of (calls_of es)) ≡ [] → AreComparable (calls_of es) × AreOrdered (calls_of es)
+pub test_by_none : (es : List Event) → IsBoundedOrdered es → read_faults (calls_of es) (views_of (calls_of es)) ≡ [] → AreComparable (calls_of es) × AreOrdered (calls_of es)
 test_by_none es kept e = let t = (no_read_fault_exactly es (bytes_of_events es kept.fit)).0 e in (t.comparable, t.ordered)

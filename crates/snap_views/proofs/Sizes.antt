@@ -8,7 +8,8 @@ use Rattle.snap_core.specs.declared.entry.Entry.{Entry}
 use Rattle.snap_core.specs.declared.event.Event.{Event}
 use Rattle.snap_core.specs.declared.event.Event.TheVariants.{BeginUpdate, BeginView, EndUpdate, EndView}
 use Rattle.snap_core.specs.Entries.{HasByteComponent, rises}
-use Rattle.snap_core.specs.Events.{IsBoundedHistory, event_cap}
+use Rattle.snap_core.specs.Bounded.{IsBoundedOrdered}
+use Rattle.snap_core.specs.Events.{event_cap}
 use Rattle.snap_core.specs.Calls.{calls_of, calls_from, is_view, views_of}
 
 -- a view lists no more than 256 components
@@ -33,7 +34,7 @@ filter_short p (x ∷ xs) = shorter (p x) (filter_short p xs)
     shorter false h = omega (arith, h)
 
 -- how many views a history has
-pub few_views : (es : List Event) → IsBoundedHistory es → length (views_of (calls_of es)) ≤ event_cap
+pub few_views : (es : List Event) → IsBoundedOrdered es → length (views_of (calls_of es)) ≤ event_cap
 unfolding views_of calls_of
 few_views es k = omega (arith, filter_short is_view (calls_of es), few_calls 0 0 es, k.short)
   where

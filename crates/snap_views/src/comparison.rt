@@ -8,6 +8,7 @@ ghost use Rattle.snap_theory.specs.Faults.{read_faults};
 
 use crate::sweep::ordered;
 use crate::view_chain::{ViewChain, chain};
+use snap_core::Ownership;
 use snap_index::Index;
 use std::alloc::{AllocError, Global};
 
@@ -24,7 +25,11 @@ pub enum ViewOrder {
 
 /// How the completed views compare: as a chain, unless two of them cross. `sums` has the sum of each completed view, by call
 /// number. The error is lack of memory.
-pub fn view_order(alloc: Global, index: &Index<'_>, sums: Vec<u64>) -> Result<ViewOrder, AllocError>
+pub fn view_order<O: Ownership>(
+    alloc: Global,
+    index: &Index<'_, O>,
+    sums: Vec<u64>,
+) -> Result<ViewOrder, AllocError>
     requires { AreViewSums (calls_of index.now) sums.items }
     ensures chain { IfOk result (λ order. IfSome (chain_of order) (IsViewChain (calls_of index.now))) }
     ensures comparable { IfOk result (λ order. IsSome (chain_of order) ↔ AreComparable (calls_of index.now)) }

@@ -7,7 +7,7 @@ ghost use Rattle.snap_views.specs.Quick.{shown_sum, entry_sum};
 ghost use Rattle.snap_views.specs.Seen.{view_in};
 
 use crate::seen::view_at;
-use snap_core::Entry;
+use snap_core::{Entry, Ownership};
 use snap_index::Index;
 use std::alloc::{AllocError, Global};
 
@@ -24,7 +24,7 @@ pub fn entries_sum(entries: &[Entry]) -> u64
 }
 
 /// The sum of the numbers that the `i`-th completed view by call number shows, counted from 0.
-pub fn view_sum(index: &Index<'_>, i: u32) -> u64
+pub fn view_sum(index: &Index<'_, impl Ownership>, i: u32) -> u64
     requires { i < length (views_of (calls_of index.now)) }
     ensures { result ≡ shown_sum (view_in (calls_of index.now) i) }
 {
@@ -32,7 +32,7 @@ pub fn view_sum(index: &Index<'_>, i: u32) -> u64
 }
 
 /// The sums of the numbers that the completed views show, by call number. The error is lack of memory.
-pub fn view_sums(alloc: Global, index: &Index<'_>) -> Result<Vec<u64>, AllocError>
+pub fn view_sums<O: Ownership>(alloc: Global, index: &Index<'_, O>) -> Result<Vec<u64>, AllocError>
     ensures { IfOk result (λ sums. AreViewSums (calls_of index.now) sums.items) }
 {
     let mut sums = Vec::with_capacity(alloc, index.view_count() as usize)?;

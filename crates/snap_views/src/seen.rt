@@ -3,7 +3,7 @@ ghost use Rattle.std.specs.Prelude.{◌<◌, length};
 ghost use Rattle.snap_core.specs.Calls.{calls_of, views_of};
 ghost use Rattle.snap_views.specs.Seen.{IsSeen, view_in};
 
-use snap_core::Entry;
+use snap_core::{Entry, Ownership};
 use snap_index::{Call, Index};
 
 /// A completed view of an index.
@@ -18,7 +18,7 @@ pub struct SeenView<'i> {
 }
 
 /// The completed view at a place in the order of call numbers, counted from 0. There must be one.
-pub fn view_at<'i>(index: &'i Index<'_>, place: u32) -> SeenView<'i>
+pub fn view_at<'i, O: Ownership>(index: &'i Index<'_, O>, place: u32) -> SeenView<'i>
     requires { place < length (views_of (calls_of index.now)) }
     ensures { IsSeen (view_in (calls_of index.entry.now) place) result }
 {

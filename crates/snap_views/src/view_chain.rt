@@ -1,16 +1,15 @@
 //! The completed views as a chain, in which each shows no less than those before it.
 ghost use Rattle.std.specs.Prelude.{◌≡◌, ◌<◌, ◌≤◌, ◌↔◌, ℕ, length, map, All, IfOk, IfSome, IsSome, IsTrue};
-ghost use Rattle.std.specs.List.Sorted.{IsPermutation};
 ghost use Rattle.snap_core.specs.Calls.{calls_of};
 ghost use Rattle.snap_core.specs.Entries.{AreEntries, component_count};
-ghost use Rattle.snap_core.specs.Events.{IsBoundedHistory};
+ghost use Rattle.snap_core.specs.Bounded.{IsBoundedOrdered};
 ghost use Rattle.snap_views.specs.Chains.{AreViewSums, IsChain};
 ghost use Rattle.snap_views.specs.inside.Chains.{IsSummed, Climbs, joined, summed_views};
 ghost use Rattle.snap_views.specs.Quick.{AreComparable};
 ghost use Rattle.snap_views.specs.Rows.{AreNumbersOf, number_among, row_number, sum_below};
 
 use crate::seen::view_at;
-use snap_core::{COMPONENT_COUNT, EVENT_CAP, Entry};
+use snap_core::{COMPONENT_COUNT, EVENT_CAP, Entry, Ownership};
 use snap_index::Index;
 use std::alloc::{AllocError, Global};
 
@@ -26,7 +25,11 @@ pub struct ViewChain {
 /// The places of the completed views by call number, counted from 0. They are sorted by the sums of the numbers that the views
 /// show, and then by place. `None` exactly when two of these views cross: each shows a component above the other's. `sums` has the
 /// sum of each completed view, by call number. The error is lack of memory.
-pub fn chain(alloc: Global, index: &Index<'_>, sums: &[u64]) -> Result<Option<Vec<u32>>, AllocError>
+pub fn chain(
+    alloc: Global,
+    index: &Index<'_, impl Ownership>,
+    sums: &[u64],
+) -> Result<Option<Vec<u32>>, AllocError>
     requires { AreViewSums (calls_of index.now) sums.now }
     ensures sorted { IfOk result (λ found. IfSome found (λ places. IsChain (calls_of index.now) places.items)) }
     ensures comparable { IfOk result (λ found. IsSome found ↔ AreComparable (calls_of index.now)) }
@@ -57,8 +60,8 @@ pub fn chain(alloc: Global, index: &Index<'_>, sums: &[u64]) -> Result<Option<Ve
 const PAIRS_TRIED: usize = 16;
 
 // Whether two views cross, among pairs of neighbours by call number at even spaces. If so, no chain is sorted in vain.
-fn some_cross(index: &Index<'_>, keys: &[(u64, u32)]) -> bool
-    requires kept { IsBoundedHistory index.now }
+fn some_cross<O: Ownership>(index: &Index<'_, O>, keys: &[(u64, u32)]) -> bool
+    requires kept { IsBoundedOrdered index.now }
     requires keys { All (IsSummed (calls_of index.now)) keys.now }
     ensures { IsTrue result → ¬ AreComparable (calls_of index.now) }
 {
@@ -75,8 +78,8 @@ fn some_cross(index: &Index<'_>, keys: &[(u64, u32)]) -> bool
 }
 
 // Whether each of two views shows a component above the other's.
-fn cross(index: &Index<'_>, one: (u64, u32), other: (u64, u32)) -> bool
-    requires kept { IsBoundedHistory index.now }
+fn cross<O: Ownership>(index: &Index<'_, O>, one: (u64, u32), other: (u64, u32)) -> bool
+    requires kept { IsBoundedOrdered index.now }
     requires one { IsSummed (calls_of index.now) one }
     requires other { IsSummed (calls_of index.now) other }
     ensures { IsTrue result → ¬ AreComparable (calls_of index.now) }
@@ -85,7 +88,11 @@ fn cross(index: &Index<'_>, one: (u64, u32), other: (u64, u32)) -> bool
 }
 
 // The sum of each completed view, and its place.
-fn keys(alloc: Global, index: &Index<'_>, sums: &[u64]) -> Result<Vec<(u64, u32)>, AllocError>
+fn keys<O: Ownership>(
+    alloc: Global,
+    index: &Index<'_, O>,
+    sums: &[u64],
+) -> Result<Vec<(u64, u32)>, AllocError>
     requires { AreViewSums (calls_of index.now) sums.now }
     ensures { IfOk result (λ keys. keys.items ≡ summed_views (calls_of index.now)) }
 {
@@ -108,8 +115,8 @@ fn places(alloc: Global, keys: &[(u64, u32)]) -> Result<Vec<u32>, AllocError>
 }
 
 // Whether each of these views shows no component above the next one's.
-fn climbs(index: &Index<'_>, keys: &[(u64, u32)]) -> bool
-    requires kept { IsBoundedHistory index.now }
+fn climbs<O: Ownership>(index: &Index<'_, O>, keys: &[(u64, u32)]) -> bool
+    requires kept { IsBoundedOrdered index.now }
     requires keys { All (IsSummed (calls_of index.now)) keys.now }
     ensures { IsTrue result ↔ Climbs (calls_of index.now) keys.now (length keys.now) }
 {

@@ -4,10 +4,13 @@ use Rattle.std.specs.Prelude.{IsTrue}
 use Rattle.std.specs.List.{All, count_by}
 use Rattle.std.proofs.lemmas.Bool.{and_parts, and_from, not-false, not_from_true}
 use Rattle.std.proofs.lemmas.List.Elements.{All-append, All-contains}
+use Rattle.snap_core.specs.declared.writers.Writers.TheVariants.{One}
+use Rattle.snap_core.proofs.Ordered.{history_is_ordered}
 use Rattle.snap_core.specs.Limited.{LimitedEvents}
 use Rattle.snap_core.specs.declared.event.Event.{Event}
 use Rattle.snap_core.specs.Calls.{Call, calls_of, views_of}
-use Rattle.snap_core.specs.Events.{IsHistory, IsBoundedHistory}
+use Rattle.snap_core.specs.Events.{IsHistory}
+use Rattle.snap_core.specs.Bounded.{IsBoundedHistory}
 use Rattle.snap_core.specs.Orders.{IsAtomic, is_completed}
 use Rattle.snap_core.specs.Regular.{IsRegular}
 use Rattle.snap_core.proofs.Begun.{begins}
@@ -105,7 +108,7 @@ pub regular_window : (judge : WindowJudge) (before since : List Event) (b v : Bo
 regular_window judge before since b v h k counts both =
     let es = renumbered (left_by before) since in
     let w = window_history judge before since h k in
-    let law = regular_by_tally es w.history (bytes_of_events es w.fit) in
+    let law = regular_by_tally es (history_is_ordered es w.history) (bytes_of_events es w.fit) in
     let law2 = regular_is_renumbered before since h.history h.fit h.quiet in
     let shows = shows_no_less judge before since h in
     let counts2 : IsTrue b ↔ CountsNoLocalFault (tally_of (calls_of es) (views_of (calls_of es))) = subst (λ z. IsTrue b ↔ CountsNoLocalFault (tally_of (calls_of z) (views_of (calls_of z)))) h.window counts in (
@@ -144,9 +147,9 @@ atomic_whole judge before since v w h is both =
     )
 
 -- the judge after a cut
-pub cut_taken : (judge : WindowJudge) (before since : List Event) (window : LimitedEvents) (regular atomic : Bool) → HasTaken judge before since → IsQuiet (before ++ since) → window.events ≡ [] → window.limit ≡ judge.most.events → (IsTrue regular ↔ IsRegular (calls_of (before ++ since))) → (IsTrue atomic ↔ IsAtomic (calls_of (before ++ since))) →
+pub cut_taken : (judge : WindowJudge) (before since : List Event) (window : LimitedEvents) (regular atomic : Bool) → HasTaken judge before since → IsQuiet (before ++ since) → window.events ≡ [] → window.limit.events ≡ judge.most.events → window.limit.writers ≡ One → (IsTrue regular ↔ IsRegular (calls_of (before ++ since))) → (IsTrue atomic ↔ IsAtomic (calls_of (before ++ since))) →
     HasTaken (record { left = judge.last; last = judge.last; window = window; shows = true; regular = regular; atomic = atomic; most = judge.most }) (before ++ since) []
-cut_taken judge before since window regular atomic h quiet empty same r a = record {
+cut_taken judge before since window regular atomic h quiet empty same one r a = record {
   history = subst IsHistory (sym (append-nil (before ++ since))) h.history;
   fit = λ k d l. absurd (omega (arith, l));
   quiet = quiet;
@@ -154,6 +157,7 @@ cut_taken judge before since window regular atomic h quiet empty same r a = reco
   last = subst (HasLast judge.last) (sym (append-nil (before ++ since))) h.last;
   window = empty;
   limit = same;
+  one_writer = one;
   shows = (λ t k d l. absurd (omega (arith, l)), λ z. refl);
   regular = r;
   atomic = a;

@@ -1,5 +1,6 @@
 -- The recording without events.
 use Rattle.std.proofs.Common.{◌≡◌, true, List, [], ◌∷◌, ◌++◌, refl, arith}
+use Rattle.snap_core.specs.declared.writers.Writers.TheVariants.{One}
 use Rattle.snap_core.specs.declared.limit.Limit.{Limit}
 use Rattle.snap_core.specs.Limited.{LimitedEvents}
 use Rattle.snap_core.specs.Calls.{Call, calls_of}
@@ -44,8 +45,8 @@ atomic_nothing : IsAtomic (calls_of [])
 unfolding calls_of
 atomic_nothing = ([], no_calls_are_legal)
 
-pub nothing_taken : (left last : List (Option Wrote)) (window : LimitedEvents) (most : Limit) → HasLast left [] → HasLast last [] → window.events ≡ [] → window.limit ≡ most.events → HasTaken (record { left = left; last = last; window = window; shows = true; regular = true; atomic = true; most = most }) [] []
-nothing_taken left last window most a b w l = record {
+pub nothing_taken : (left last : List (Option Wrote)) (window : LimitedEvents) (most : Limit) → HasLast left [] → HasLast last [] → window.events ≡ [] → window.limit.events ≡ most.events → window.limit.writers ≡ One → HasTaken (record { left = left; last = last; window = window; shows = true; regular = true; atomic = true; most = most }) [] []
+nothing_taken left last window most a b w l one = record {
   history = history_nil;
   fit = λ k d l. absurd (omega (arith, l));
   quiet = quiet_nothing;
@@ -53,6 +54,7 @@ nothing_taken left last window most a b w l = record {
   last = b;
   window = w;
   limit = l;
+  one_writer = one;
   shows = (λ t k d l. absurd (omega (arith, l)), λ h. refl);
   regular = (λ t. regular_nothing, λ h. refl);
   atomic = (λ t. atomic_nothing, λ h. refl);

@@ -1,5 +1,6 @@
 -- What a judge of windows has taken.
 use Rattle.std.specs.Prelude.{List, ◌++◌, ◌≡◌, ◌↔◌, IsTrue, All}
+use Rattle.snap_core.specs.declared.writers.Writers.TheVariants.{One}
 use Rattle.snap_core.specs.declared.event.Event.{Event}
 use Rattle.snap_core.specs.Calls.{calls_of}
 use Rattle.snap_core.specs.Events.{EventFits, IsHistory}
@@ -19,7 +20,8 @@ pub record HasTaken (judge : WindowJudge) (before since : List Event) : Type 0 w
   pub left : HasLast judge.left before
   pub last : HasLast judge.last (before ++ since)
   pub window : judge.window.events ≡ renumbered (left_by before) since
-  pub limit : judge.window.limit ≡ judge.most.events
+  pub limit : judge.window.limit.events ≡ judge.most.events
+  pub one_writer : judge.window.limit.writers ≡ One
   pub shows : IsTrue judge.shows ↔ All (EventShowsNoLess (left_by before)) since
   pub regular : IsTrue judge.regular ↔ IsRegular (calls_of before)
   pub atomic : IsTrue judge.atomic ↔ IsAtomic (calls_of before)

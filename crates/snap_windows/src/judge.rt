@@ -60,7 +60,7 @@ fn has_other_writer(left: &[Option<Wrote>; COMPONENT_COUNT], event: &Event) -> b
 }
 
 impl WindowJudge {
-    /// The judge that has taken nothing. A window has at most as many events as the limit `most`.
+    /// The judge that has taken nothing. A window has at most as many events as the limit `most`, and each component has one writer.
     pub fn new(alloc: Global, most: Limit) -> WindowJudge
         ensures taken { HasTaken result [] [] }
         ensures limit { result.most ≡ most }

@@ -4,7 +4,7 @@ use Rattle.std.specs.List.{cons_option}
 use Rattle.std.specs.Option.{option_map, option_or}
 use Rattle.snap_core.specs.declared.event.Event.{Event}
 use Rattle.snap_core.specs.Calls.{calls_of, views_of}
-use Rattle.snap_core.specs.Events.{IsBoundedHistory}
+use Rattle.snap_core.specs.Bounded.{IsBoundedOrdered}
 use Rattle.snap_conditions.specs.declared.fault.Fault.{Fault}
 use Rattle.snap_conditions.specs.declared.fault.Fault.TheVariants as faults
 use Rattle.snap_conditions.specs.declared.fault.IntegrityFault.{IntegrityFault}
@@ -33,7 +33,7 @@ abbrev pub first_of_four : Option IntegrityFault → Option ProximityFault → O
 first_of_four i p r w =
     first_of (cons_option (option_map faults.Integrity i) (cons_option (option_map faults.Proximity p) (cons_option (option_map faults.Read r) (cons_option (option_map faults.Write w) []))))
 
-pub first_is_concerned : (es : List Event) → IsBoundedHistory es → (t : Tally) → t ≡ tally_of (calls_of es) (views_of (calls_of es)) → (f : Fault) → first_fault_in t ≡ Some f → IsConcerned es f
+pub first_is_concerned : (es : List Event) → IsBoundedOrdered es → (t : Tally) → t ≡ tally_of (calls_of es) (views_of (calls_of es)) → (f : Fault) → first_fault_in t ≡ Some f → IsConcerned es f
 first_is_concerned es h t whole f e = go t.integrity.first t.proximity.first t.read.first t.write.first refl refl refl refl e
   where
     go : (i : Option IntegrityFault) (p : Option ProximityFault) (r : Option ReadFault) (w : Option WriteFault) →

@@ -1,7 +1,8 @@
 -- The calls of a witness are what is left of the calls that it keeps, one for one.
 use Rattle.std.proofs.Common.{◌≡◌, ◌⊎◌, ℕ, suc, Bool, true, false, cond, List, [], ◌∷◌, length, refl, sym, ap, ◌∙◌, subst, inl, inr, arith}
 use Rattle.snap_core.specs.declared.event.Event.{Event}
-use Rattle.snap_core.specs.Events.{IsBegin, IsBoundedHistory}
+use Rattle.snap_core.specs.Events.{IsBegin}
+use Rattle.snap_core.specs.Bounded.{IsBoundedOrdered}
 use Rattle.snap_core.specs.Calls.{Call, calls_from, calls_of}
 use Rattle.snap_core.proofs.Begun.{begun, call_at}
 use Rattle.snap_core.proofs.Lists.{Contains-from_In, In}
@@ -12,7 +13,6 @@ use Rattle.snap_theory.specs.Witness.{numbers_of, witness_of}
 use Rattle.snap_theory.proofs.Chosen.{chosen_is_choice}
 use Rattle.snap_theory.proofs.FaultWitnesses.{are_witnesses}
 use Rattle.snap_theory.proofs.Kept.{Whole, begin_kept, calls_begin, calls_end, end_kept, from_kept, from_left, kept_to, kind, rank_kept, rank_left, whole_begin, whole_end}
-use Rattle.snap_theory.proofs.Ordered.{history_is_ordered}
 use Rattle.snap_theory.proofs.Witnesses.{are_chosen}
 use Rattle.snap_witness.specs.Keeping.{as_kept, calls_begun, calls_kept}
 
@@ -72,13 +72,12 @@ listed_kept keeps numbers place n m r (x ∷ es) s w = go (λ n m r. listed_kept
         ∙ more n m r (s ∙ sym (rank_left keeps place p)) (whole_end keeps n place x es b w)
         ∙ sym (ap (λ z. as_kept keeps numbers m (calls_begun keeps z)) (calls_end n place x es b))
 
-pub calls_are_kept : (es : List Event) → IsBoundedHistory es → (f : Fault) → IsFaultOf (calls_of es) f →
+pub calls_are_kept : (es : List Event) → IsBoundedOrdered es → (f : Fault) → IsFaultOf (calls_of es) f →
     calls_of (fault_witness es f) ≡ as_kept (is_place_of (fault_calls es f)) (numbers_of (fault_updates f)) 0 (calls_kept es f)
 unfolding calls_of witness_of kept_events calls_kept
 calls_are_kept es h f i =
-    let o = history_is_ordered es h.history in
-    let chosen = are_chosen es (fault_views f) (fault_updates f) o (are_witnesses es h f i) in
-    let choice : IsChoice (is_place_of (fault_calls es f)) (numbers_of (fault_updates f)) (calls_of es) = chosen_is_choice es o (fault_calls es f) (numbers_of (fault_updates f)) chosen in
+    let chosen = are_chosen es (fault_views f) (fault_updates f) h.history (are_witnesses es h f i) in
+    let choice : IsChoice (is_place_of (fault_calls es f)) (numbers_of (fault_updates f)) (calls_of es) = chosen_is_choice es h.history (fault_calls es f) (numbers_of (fault_updates f)) chosen in
     listed_kept (is_place_of (fault_calls es f)) (numbers_of (fault_updates f)) 0 0 0 0 es refl (λ c j i e. choice.whole c j (Contains-from_In (calls_of es) c i) e)
 
 pub length-as_kept : (keeps : ℕ → Bool) (numbers : ℕ → ℕ) (n : ℕ) (cs : List Call) → length (as_kept keeps numbers n cs) ≡ length cs

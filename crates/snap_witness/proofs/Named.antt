@@ -6,7 +6,8 @@ use Rattle.std.specs.Result.{IfOk}
 use Rattle.std.proofs.lemmas.Bool.{and_parts}
 use Rattle.std.proofs.lemmas.List.Sums.{count_by-le-length}
 use Rattle.snap_core.specs.declared.event.Event.{Event}
-use Rattle.snap_core.specs.Events.{IsBoundedHistory, event_cap}
+use Rattle.snap_core.specs.Bounded.{IsBoundedOrdered}
+use Rattle.snap_core.specs.Events.{event_cap}
 use Rattle.snap_core.specs.Calls.{Call, calls_of, views_of, call_numbered, is_view, precedes, shown_number, is_update_numbered}
 use Rattle.snap_core.specs.Regular.{IsViewOf}
 use Rattle.snap_core.proofs.Lists.{In, In-from_Contains, any_to}
@@ -33,7 +34,7 @@ use Rattle.snap_theory.proofs.FaultWitnesses.{are_witnesses}
 use Rattle.snap_theory.proofs.First.{integrity_is, proximity_first, read_is, write_is}
 use Rattle.snap_theory.proofs.Witnesses.{find_there}
 
-names : (es : List Event) → IsBoundedHistory es → (o : Option Fault) (f : Fault) (vs : List ℕ) → o ≡ Some f → IsFaultOf (calls_of es) f → All (λ c. c < length (calls_of es)) vs → fault_views f ≡ calls_numbered (calls_of es) vs → Names es o vs (fault_updates f)
+names : (es : List Event) → IsBoundedOrdered es → (o : Option Fault) (f : Fault) (vs : List ℕ) → o ≡ Some f → IsFaultOf (calls_of es) f → All (λ c. c < length (calls_of es)) vs → fault_views f ≡ calls_numbered (calls_of es) vs → Names es o vs (fault_updates f)
 names es h o f vs e i within same = record {
   fault = f;
   is = e;
@@ -96,7 +97,7 @@ view_at es r v = record {
   view = ap is_view (own_number es r (In-from_Contains (calls_of es) r v.there)) ∙ v.completed;
 }
 
-pub integrity_named : (es : List Event) → IsBoundedHistory es → (fault : IntegrityFault) → option_map reported_integrity (first_of (integrity_faults (calls_of es) (views_of (calls_of es)))) ≡ Some fault →
+pub integrity_named : (es : List Event) → IsBoundedOrdered es → (fault : IntegrityFault) → option_map reported_integrity (first_of (integrity_faults (calls_of es) (views_of (calls_of es)))) ≡ Some fault →
     Names es (first_integrity (calls_of es)) (fault.view ∷ []) ((fault.entry.component, fault.entry.number) ∷ [])
 unfolding first_integrity
 integrity_named es h fault e =
@@ -107,7 +108,7 @@ integrity_named es h fault e =
     (names es h (first_integrity (calls_of es)) (Integrity m.from.0 m.from.1) (m.from.0.number ∷ []) f i (one_within es m.from.0 i.0) (one_call es m.from.0 i.0))
 
 -- the number of an update that there is
-pub few_updates : (es : List Event) → IsBoundedHistory es → (k n : ℕ) (c : Call) → In c (calls_of es) → is_update_numbered k n c ≡ true → n ≤ event_cap
+pub few_updates : (es : List Event) → IsBoundedOrdered es → (k n : ℕ) (c : Call) → In c (calls_of es) → is_update_numbered k n c ≡ true → n ≤ event_cap
 few_updates es h k n c i t =
     let f = find_there (is_update_numbered k n) (calls_of es) c i t in
     let b = update_bounds es h.history k n f.0 f.1 in
@@ -119,7 +120,7 @@ pub record NamesProximity (es : List Event) (fault : ProximityFault) : Type 0 wh
   pub small : fault.number ≤ event_cap
   pub named : Names es (first_proximity (calls_of es)) (fault.view ∷ []) ((fault.component, side_number fault.side fault.number) ∷ [])
 
-pub proximity_named : (es : List Event) → IsBoundedHistory es → (fault : ProximityFault) → option_map (reported_proximity (calls_of es)) (first_of (proximity_faults (calls_of es) (views_of (calls_of es)))) ≡ Some fault → NamesProximity es fault
+pub proximity_named : (es : List Event) → IsBoundedOrdered es → (fault : ProximityFault) → option_map (reported_proximity (calls_of es)) (first_of (proximity_faults (calls_of es) (views_of (calls_of es)))) ≡ Some fault → NamesProximity es fault
 unfolding first_proximity old_fault early_fault
 proximity_named es h fault e =
     let m = mapped_some (reported_proximity (calls_of es)) (first_of (proximity_faults (calls_of es) (views_of (calls_of es)))) fault e in
@@ -156,7 +157,7 @@ pub record NamesRead (es : List Event) (fault : ReadFault) : Type 0 where
   pub other : IsViewAt (calls_of es) fault.other
   pub named : Names es (first_read (calls_of es)) (fault.view ∷ fault.other ∷ []) (fault_updates (Read (call_numbered (calls_of es) fault.view) (call_numbered (calls_of es) fault.other)))
 
-pub read_named : (es : List Event) → IsBoundedHistory es → (fault : ReadFault) → option_map reported_read (first_of (read_faults (calls_of es) (views_of (calls_of es)))) ≡ Some fault → NamesRead es fault
+pub read_named : (es : List Event) → IsBoundedOrdered es → (fault : ReadFault) → option_map reported_read (first_of (read_faults (calls_of es) (views_of (calls_of es)))) ≡ Some fault → NamesRead es fault
 unfolding first_read
 read_named es h fault e =
     let m = mapped_some reported_read (first_of (read_faults (calls_of es) (views_of (calls_of es)))) fault e in
@@ -174,7 +175,7 @@ read_named es h fault e =
           (names es h (first_read (calls_of es)) (Read r s) (r.number ∷ s.number ∷ []) f i (two_within es r s i.0 i.1) (two_calls es r s i.0 i.1)));
     })
 
-pub write_named : (es : List Event) → IsBoundedHistory es → (fault : WriteFault) → option_map reported_write (first_of (write_faults (calls_of es) (views_of (calls_of es)))) ≡ Some fault →
+pub write_named : (es : List Event) → IsBoundedOrdered es → (fault : WriteFault) → option_map reported_write (first_of (write_faults (calls_of es) (views_of (calls_of es)))) ≡ Some fault →
     Names es (first_write (calls_of es)) (fault.view ∷ []) ((fault.missed_component, fault.missed_number) ∷ (fault.shown_component, fault.shown_number) ∷ [])
 unfolding first_write
 write_named es h fault e =

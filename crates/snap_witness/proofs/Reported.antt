@@ -4,7 +4,8 @@ use Rattle.std.specs.Option.{ForSome, option_map}
 use Rattle.std.proofs.lemmas.List.Elements.{All-cons, All-nil}
 use Rattle.snap_core.specs.declared.event.Event.{Event}
 use Rattle.snap_core.specs.Calls.{Call, calls_of, views_of}
-use Rattle.snap_core.specs.Events.{IsBoundedHistory, event_cap}
+use Rattle.snap_core.specs.Bounded.{IsBoundedOrdered}
+use Rattle.snap_core.specs.Events.{event_cap}
 use Rattle.snap_conditions.specs.declared.fault.IntegrityFault.{IntegrityFault}
 use Rattle.snap_conditions.specs.declared.fault.ProximityFault.{ProximityFault}
 use Rattle.snap_conditions.specs.declared.fault.ReadFault.{ReadFault}
@@ -26,24 +27,24 @@ use Rattle.snap_theory.proofs.First.{integrity_is, write_is}
 use Rattle.snap_witness.proofs.Named.{proximity_named, read_named, view_at}
 use Rattle.snap_witness.proofs.Tallied.{integrity_told, proximity_told, read_told, write_told}
 
-pub integrity_is_named : (es : List Event) → IsBoundedHistory es → (t : Tally) → t ≡ tally_of (calls_of es) (views_of (calls_of es)) → (first : Option IntegrityFault) → first ≡ t.integrity.first → ForSome first (λ f. IsViewAt (calls_of es) f.view)
+pub integrity_is_named : (es : List Event) → IsBoundedOrdered es → (t : Tally) → t ≡ tally_of (calls_of es) (views_of (calls_of es)) → (first : Option IntegrityFault) → first ≡ t.integrity.first → ForSome first (λ f. IsViewAt (calls_of es) f.view)
 unfolding first_integrity
 integrity_is_named es h t whole first e = λ f is.
     let m = mapped_some reported_integrity (first_of (integrity_faults (calls_of es) (views_of (calls_of es)))) f (sym (integrity_told (calls_of es) t whole) ∙ sym e ∙ is) in
     let there = integrity_is (calls_of es) (IntegrityOf m.from.0 m.from.1) (ap (option_map (λ (f : Call × ℕ). IntegrityOf f.0 f.1)) m.is) in
     subst (λ (z : IntegrityFault). IsViewAt (calls_of es) z.view) m.to (view_at es m.from.0 there.0.0)
 
-pub proximity_is_named : (es : List Event) → IsBoundedHistory es → (t : Tally) → t ≡ tally_of (calls_of es) (views_of (calls_of es)) → (first : Option ProximityFault) → first ≡ t.proximity.first → ForSome first (λ f. IsViewAt (calls_of es) f.view × (f.number ≤ event_cap))
+pub proximity_is_named : (es : List Event) → IsBoundedOrdered es → (t : Tally) → t ≡ tally_of (calls_of es) (views_of (calls_of es)) → (first : Option ProximityFault) → first ≡ t.proximity.first → ForSome first (λ f. IsViewAt (calls_of es) f.view × (f.number ≤ event_cap))
 proximity_is_named es h t whole first e = λ f is.
     let named = proximity_named es h f (sym (proximity_told (calls_of es) t whole) ∙ sym e ∙ is) in
     (named.view, named.small)
 
-pub read_is_named : (es : List Event) → IsBoundedHistory es → (t : Tally) → t ≡ tally_of (calls_of es) (views_of (calls_of es)) → (first : Option ReadFault) → first ≡ t.read.first → ForSome first (AreReadAt (calls_of es))
+pub read_is_named : (es : List Event) → IsBoundedOrdered es → (t : Tally) → t ≡ tally_of (calls_of es) (views_of (calls_of es)) → (first : Option ReadFault) → first ≡ t.read.first → ForSome first (AreReadAt (calls_of es))
 read_is_named es h t whole first e = λ f is.
     let named = read_named es h f (sym (read_told (calls_of es) t whole) ∙ sym e ∙ is) in
     (named.view, named.other)
 
-pub write_is_named : (es : List Event) → IsBoundedHistory es → (t : Tally) → t ≡ tally_of (calls_of es) (views_of (calls_of es)) → (first : Option WriteFault) → first ≡ t.write.first → ForSome first (λ f. IsViewAt (calls_of es) f.view)
+pub write_is_named : (es : List Event) → IsBoundedOrdered es → (t : Tally) → t ≡ tally_of (calls_of es) (views_of (calls_of es)) → (first : Option WriteFault) → first ≡ t.write.first → ForSome first (λ f. IsViewAt (calls_of es) f.view)
 unfolding first_write
 write_is_named es h t whole first e = λ f is.
     let m = mapped_some reported_write (first_of (write_faults (calls_of es) (views_of (calls_of es)))) f (sym (write_told (calls_of es) t whole) ∙ sym e ∙ is) in
@@ -51,7 +52,7 @@ write_is_named es h t whole first e = λ f is.
     subst (λ (z : WriteFault). IsViewAt (calls_of es) z.view) m.to (view_at es m.from.0 there.0)
 
 -- the first fault of each kind names completed views
-pub is_named : (es : List Event) → IsBoundedHistory es → (t : Tally) → t ≡ tally_of (calls_of es) (views_of (calls_of es)) → (kind : Kind) (first : Option Fault) → first ≡ first_in kind t → ForSome first (IsNamed (calls_of es))
+pub is_named : (es : List Event) → IsBoundedOrdered es → (t : Tally) → t ≡ tally_of (calls_of es) (views_of (calls_of es)) → (kind : Kind) (first : Option Fault) → first ≡ first_in kind t → ForSome first (IsNamed (calls_of es))
 is_named es h t whole Integrity first e = λ f is.
     let m = mapped_some faults.Integrity t.integrity.first f (sym e ∙ is) in
     subst (IsNamed (calls_of es)) m.to (integrity_is_named es h t whole t.integrity.first refl m.from m.is)

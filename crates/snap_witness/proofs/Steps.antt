@@ -9,6 +9,7 @@ use Rattle.snap_core.specs.declared.view.ViewRefusal.TheVariants.{NotRising, Zer
 use Rattle.snap_core.specs.Entries.{AreEntries, rises, has_zero, view_refusal}
 use Rattle.snap_core.proofs.Lists.{In}
 use Rattle.snap_core.specs.Events.{IsHistory, event_cap}
+use Rattle.snap_core.specs.UsualLimits.{greatest_limit}
 use Rattle.snap_core.specs.Refusals.{refusal_of}
 use Rattle.snap_core.proofs.Pushes.{history_back}
 use Rattle.snap_core.proofs.Picks.{picked, is_short}
@@ -110,7 +111,7 @@ kept_short keeps numbers place (x ∷ xs) = go (keeps place) (kept_short keeps n
 
 -- no event that is kept is refused
 pub none_refused : (keeps : ℕ → Bool) (numbers : ℕ → ℕ) (es : List Event) (i : ℕ) (d : Event) → IsHistory (kept_from keeps numbers 0 es) → length es ≤ event_cap → i < length es → keeps i ≡ true →
-    refusal_of event_cap (kept_from keeps numbers 0 (take i es)) (kept_event numbers (get_or es i d)) ≡ None
+    refusal_of greatest_limit (kept_from keeps numbers 0 (take i es)) (kept_event numbers (get_or es i d)) ≡ None
 none_refused keeps numbers es i d h s l t =
     let K = kept_from keeps numbers 0 (take i es) in
     let n = length-take (i + 1) es in
@@ -119,4 +120,4 @@ none_refused keeps numbers es i d h s l t =
     ap (kept_from keeps numbers 0) (sym (take-append-drop (i + 1) es)) ∙ kept_from_append keeps numbers 0 (i + 1) (take (i + 1) es) (drop (i + 1) es) (omega (arith, n, l)) ∙ ap (λ z. z ++ kept_from keeps numbers (i + 1) (drop (i + 1) es)) (kept_next keeps numbers es i d true l t) in
     let a = (history_back K (kept_event numbers (get_or es i d)) (history_front (K ++ kept_event numbers (get_or es i d) ∷ []) (kept_from keeps numbers (i + 1) (drop (i + 1) es)) (subst IsHistory all h))).1 in
     let short = kept_short keeps numbers 0 (take i es) in
-    picked event_cap K (kept_event numbers (get_or es i d)) false false false false false false (is_short event_cap K (omega (arith, short, m, l, s))) a.not_busy a.not_idle a.not_other a.writer a.number
+    picked greatest_limit K (kept_event numbers (get_or es i d)) false false false false false false false (is_short greatest_limit K (omega (arith, short, m, l, s))) a.not_busy a.not_idle a.not_other a.writer a.number a.order

@@ -5,7 +5,8 @@ use Rattle.std.specs.Option.{ForSome}
 use Rattle.std.proofs.lemmas.Bool.{and_parts, or_cases}
 use Rattle.snap_core.specs.declared.event.Event.{Event}
 use Rattle.snap_core.specs.Calls.{Call, calls_of, views_of, precedes, shown_number, is_update_numbered}
-use Rattle.snap_core.specs.Events.{IsBoundedHistory, event_cap}
+use Rattle.snap_core.specs.Bounded.{IsBoundedOrdered}
+use Rattle.snap_core.specs.Events.{event_cap}
 use Rattle.snap_core.specs.Regular.{IsViewOf}
 use Rattle.snap_core.proofs.Lists.{In, In-from_filter, any_to}
 use Rattle.snap_conditions.specs.declared.fault.Fault.{Fault}
@@ -53,7 +54,7 @@ integrity_of_view es r v t own first e = λ f is.
     subst (λ (z : IntegrityFault). IsViewAt (calls_of es) z.view) m.to (same_view es r m.from.0 v from.0)
 
 -- a view shows a number that there may be
-proximity_small : (es : List Event) → IsBoundedHistory es → (r : Call) (k : ℕ) → (old_fault (calls_of es) r k || early_fault (calls_of es) r k) ≡ true → shown_number r k ≤ event_cap
+proximity_small : (es : List Event) → IsBoundedOrdered es → (r : Call) (k : ℕ) → (old_fault (calls_of es) r k || early_fault (calls_of es) r k) ≡ true → shown_number r k ≤ event_cap
 unfolding old_fault early_fault
 proximity_small es h r k t = elim (or_cases (old_fault (calls_of es) r k) (early_fault (calls_of es) r k) t) [
   | inl old ↦
@@ -65,7 +66,7 @@ proximity_small es h r k t = elim (or_cases (old_fault (calls_of es) r k) (early
       few_updates es h k (shown_number r k) c.it c.there (and_parts (is_update_numbered k (shown_number r k) c.it) (precedes r c.it) c.passes).0
 ]
 
-pub proximity_of_view : (es : List Event) → IsBoundedHistory es → (r : Call) → IsViewOf (calls_of es) r → (t : Tally) → t ≡ tally_of (calls_of es) (r ∷ []) → (first : Option ProximityFault) → first ≡ t.proximity.first →
+pub proximity_of_view : (es : List Event) → IsBoundedOrdered es → (r : Call) → IsViewOf (calls_of es) r → (t : Tally) → t ≡ tally_of (calls_of es) (r ∷ []) → (first : Option ProximityFault) → first ≡ t.proximity.first →
     ForSome first (λ f. IsViewAt (calls_of es) f.view × (f.number ≤ event_cap))
 unfolding tally_of proximity_faults
 proximity_of_view es h r v t own first e = λ f is.
@@ -92,7 +93,7 @@ write_of_view es r v t own first e = λ f is.
     subst (λ (z : WriteFault). IsViewAt (calls_of es) z.view) m.to (same_view es r m.from.0 v from)
 
 -- the first fault of a view names completed views
-pub of_view : (es : List Event) → IsBoundedHistory es → (r : Call) → IsViewOf (calls_of es) r → (t : Tally) → t ≡ tally_of (calls_of es) (r ∷ []) → (kind : Kind) (first : Option Fault) → first ≡ first_in kind t → ForSome first (IsNamed (calls_of es))
+pub of_view : (es : List Event) → IsBoundedOrdered es → (r : Call) → IsViewOf (calls_of es) r → (t : Tally) → t ≡ tally_of (calls_of es) (r ∷ []) → (kind : Kind) (first : Option Fault) → first ≡ first_in kind t → ForSome first (IsNamed (calls_of es))
 of_view es h r v t own Integrity first e = λ f is.
     let m = mapped_some faults.Integrity t.integrity.first f (sym e ∙ is) in
     subst (IsNamed (calls_of es)) m.to (integrity_of_view es r v t own t.integrity.first refl m.from m.is)

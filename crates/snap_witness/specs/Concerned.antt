@@ -22,7 +22,8 @@ views_concerned (Read f) = f.view ∷ f.other ∷ []
 views_concerned (Write f) = f.view ∷ []
 
 -- the updates that show it, each by its component and its number: the one that has the number which a view shows, or the one that it
--- misses; of a read fault those that only one of the views shows; of a write fault the missed one and the shown one
+-- misses; of a read fault what a view shows of the least component of which it shows more than the other view; of a write fault the
+-- missed one and the shown one
 abbrev pub updates_concerned : List Call → Fault → List (ℕ × ℕ)
 updates_concerned calls (Integrity f) = (f.entry.component, f.entry.number) ∷ []
 updates_concerned calls (Proximity f) = (f.component, side_number f.side f.number) ∷ []

@@ -8,7 +8,7 @@ ghost use Rattle.snap_theory.specs.Kept.{is_among as spec_is_among, is_place_of}
 ghost use Rattle.snap_theory.specs.Witness.{updates_kept, witness_calls, witness_of, AreWitnesses};
 
 use crate::keeping::{is_among, keep};
-use snap_core::History;
+use snap_core::{History, Ownership};
 use snap_index::{Call, Index};
 use std::alloc::{AllocError, Global};
 
@@ -24,7 +24,11 @@ fn push_call(call: &Call, places: &mut Vec<u32>) -> Result<(), AllocError>
 }
 
 // Appends the places of the calls of these numbers.
-fn push_views(index: &Index<'_>, views: &[u32], places: &mut Vec<u32>) -> Result<(), AllocError>
+fn push_views<O: Ownership>(
+    index: &Index<'_, O>,
+    views: &[u32],
+    places: &mut Vec<u32>,
+) -> Result<(), AllocError>
     requires { All (λ c. c < length (calls_of index.now)) views.now }
     ensures { OnOk result (places.new.items ≡ places.old.items ++ places_of (calls_numbered (calls_of index.now) views.now)) }
 {
@@ -38,8 +42,8 @@ fn push_views(index: &Index<'_>, views: &[u32], places: &mut Vec<u32>) -> Result
 }
 
 // Appends the places of the updates of these components and numbers, as far as there are such updates.
-fn push_updates(
-    index: &Index<'_>,
+fn push_updates<O: Ownership>(
+    index: &Index<'_, O>,
     updates: &[(u8, u32)],
     places: &mut Vec<u32>,
 ) -> Result<(), AllocError>
@@ -55,9 +59,9 @@ fn push_updates(
 }
 
 // The places of some completed views, by their call numbers, and of one update for each of some components, by its number.
-fn places_kept(
+fn places_kept<O: Ownership>(
     alloc: Global,
-    index: &Index<'_>,
+    index: &Index<'_, O>,
     views: &[u32],
     updates: &[(u8, u32)],
 ) -> Result<Vec<u32>, AllocError>
@@ -71,9 +75,9 @@ fn places_kept(
 }
 
 // The history of some completed views, by their call numbers, and of one update for each of some components, by its number.
-pub(crate) fn keep_calls(
+pub(crate) fn keep_calls<O: Ownership>(
     alloc: Global,
-    index: &Index<'_>,
+    index: &Index<'_, O>,
     views: &[u32],
     updates: &[(u8, u32)],
 ) -> Result<History, AllocError>
@@ -86,7 +90,7 @@ pub(crate) fn keep_calls(
 }
 
 // Whether the call of a number begins at one of some places.
-fn begins_among(index: &Index<'_>, places: &[u32], number: u32) -> bool
+fn begins_among<O: Ownership>(index: &Index<'_, O>, places: &[u32], number: u32) -> bool
     requires { number < length (calls_of index.now) }
     ensures { result ≡ spec_is_among places.now (call_numbered (calls_of index.now) number).begun }
 {
@@ -97,7 +101,11 @@ fn begins_among(index: &Index<'_>, places: &[u32], number: u32) -> bool
 }
 
 // The numbers of the calls that begin at one of some places.
-fn numbers_among(alloc: Global, index: &Index<'_>, places: &[u32]) -> Result<Vec<u32>, AllocError>
+fn numbers_among<O: Ownership>(
+    alloc: Global,
+    index: &Index<'_, O>,
+    places: &[u32],
+) -> Result<Vec<u32>, AllocError>
     ensures { IfOk result (λ numbers. numbers.items ≡ map number_of (calls_begun (spec_is_among places.now) (calls_of index.now))) }
 {
     let mut numbers = Vec::new(alloc);
@@ -110,9 +118,9 @@ fn numbers_among(alloc: Global, index: &Index<'_>, places: &[u32]) -> Result<Vec
 }
 
 // The numbers of these calls, in the order of the history.
-pub(crate) fn numbers_kept(
+pub(crate) fn numbers_kept<O: Ownership>(
     alloc: Global,
-    index: &Index<'_>,
+    index: &Index<'_, O>,
     views: &[u32],
     updates: &[(u8, u32)],
 ) -> Result<Vec<u32>, AllocError>

@@ -11,7 +11,7 @@ ghost use Rattle.snap_witness.specs.Concerned.{IsNamed, updates_concerned, views
 ghost use Rattle.snap_witness.specs.Places.{IsViewAt, side_number as spec_side_number};
 
 use snap_conditions::{Fault, Kind, Side, Tally};
-use snap_core::{COMPONENT_COUNT, View};
+use snap_core::{COMPONENT_COUNT, Ownership, View};
 use snap_index::Index;
 use std::alloc::{AllocError, Global};
 
@@ -40,7 +40,7 @@ pub fn least_exceeding(view: &View, other: &View) -> Option<u8>
 }
 
 /// What the completed view of a call number shows. The number must be that of a completed view.
-pub fn view_numbered<'i>(index: &'i Index<'_>, c: u32) -> &'i View
+pub fn view_numbered<'i, O: Ownership>(index: &'i Index<'_, O>, c: u32) -> &'i View
     requires { IsViewAt (calls_of index.now) c }
     ensures { result.now ≡ entries_of (call_numbered (calls_of index.entry.now) c).operation }
 {
@@ -51,8 +51,8 @@ pub fn view_numbered<'i>(index: &'i Index<'_>, c: u32) -> &'i View
 }
 
 // Appends what a view shows of the least component of which it shows more than another, if there is such a component.
-fn push_excess(
-    index: &Index<'_>,
+fn push_excess<O: Ownership>(
+    index: &Index<'_, O>,
     view: u32,
     other: u32,
     updates: &mut Vec<(u8, u32)>,
@@ -71,9 +71,9 @@ fn push_excess(
 /// The updates that show the read fault of two views, each by its component and its number. The first is what the view shows of the
 /// least component of which it shows more than the other. If the view does not precede the other, the second is what the other shows
 /// of the least component of which that one shows more. Both views must be completed. The error is lack of memory.
-pub fn read_updates(
+pub fn read_updates<O: Ownership>(
     alloc: Global,
-    index: &Index<'_>,
+    index: &Index<'_, O>,
     view: u32,
     other: u32,
 ) -> Result<Vec<(u8, u32)>, AllocError>
@@ -109,7 +109,11 @@ impl FaultCalls {
 }
 
 /// The calls that a fault concerns. Its views must be completed views of the history. The error is lack of memory.
-pub fn concerned(alloc: Global, index: &Index<'_>, fault: &Fault) -> Result<FaultCalls, AllocError>
+pub fn concerned<O: Ownership>(
+    alloc: Global,
+    index: &Index<'_, O>,
+    fault: &Fault,
+) -> Result<FaultCalls, AllocError>
     requires { IsNamed (calls_of index.now) fault.now }
     ensures views { IfOk result (λ calls. calls.views.items ≡ views_concerned fault.now) }
     ensures updates { IfOk result (λ calls. calls.updates.items ≡ updates_concerned (calls_of index.now) fault.now) }
@@ -137,7 +141,11 @@ pub fn concerned(alloc: Global, index: &Index<'_>, fault: &Fault) -> Result<Faul
 
 /// The first fault of a kind; none if there is no such fault. Its views are completed views of the history. The tally is that of all
 /// completed views.
-pub fn first_fault_of(index: &Index<'_>, tally: &Tally, kind: Kind) -> Option<Fault>
+pub fn first_fault_of<O: Ownership>(
+    index: &Index<'_, O>,
+    tally: &Tally,
+    kind: Kind,
+) -> Option<Fault>
     requires { tally.now ≡ tally_of (calls_of index.now) (views_of (calls_of index.now)) }
     ensures first { result ≡ first_in kind tally.now }
     ensures named { ForSome result (IsNamed (calls_of index.now)) }

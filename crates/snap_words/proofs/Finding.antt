@@ -30,13 +30,13 @@ pub gives_more : (command : Text) (rows : List Row) (Gives More : (Job → Type 
     → ((Is : Job → Type 0) → Gives Is → More Is) → (GivesNone → MoreNone) → Finds command rows Gives GivesNone → Finds command rows More MoreNone
 gives_more command rows Gives More GivesNone MoreNone more none finds = record {
   check = λ asked is asks. more _ (finds.check asked is asks);
-  follow = λ events windows is asks. more _ (finds.follow events windows is asks);
-  shrink = λ events shrunk is asks. more _ (finds.shrink events shrunk is asks);
+  follow = λ limit windows is asks. more _ (finds.follow limit windows is asks);
+  shrink = λ limit shrunk is asks. more _ (finds.shrink limit shrunk is asks);
   drawn_map = λ is asks. none (finds.drawn_map is asks);
-  explain = λ events drawn whole faults is asks. more _ (finds.explain events drawn whole faults is asks);
+  explain = λ limit drawn whole faults is asks. more _ (finds.explain limit drawn whole faults is asks);
   drawn_faults = λ is asks. none (finds.drawn_faults is asks);
-  draw = λ events form part is asks. more _ (finds.draw events form part is asks);
-  stats = λ events json is asks. more _ (finds.stats events json is asks);
+  draw = λ limit form part is asks. more _ (finds.draw limit form part is asks);
+  stats = λ limit json is asks. more _ (finds.stats limit json is asks);
   repeated = λ is asks. none (finds.repeated is asks);
   recording = λ events workers rounds seed flags is asks. more _ (finds.recording events workers rounds seed flags is asks);
   unfollowed = λ is asks. none (finds.unfollowed is asks);

@@ -5,12 +5,16 @@ use Rattle.std.specs.Option.{ForSome}
 use Rattle.std.proofs.lemmas.Bool.{false≢true}
 use Rattle.clap.specs.Words.{Row, Text, first_of, one_of, subcommand_of, takes}
 use Rattle.snap_core.specs.Events.{event_cap}
-use Rattle.snap_core.specs.Limits.{IsLimit, event_limit}
+use Rattle.snap_core.specs.Limits.{event_limit}
+use Rattle.snap_core.specs.UsualLimits.{greatest_limit, usual_limit}
+use Rattle.snap_core.specs.declared.limit.Limit.{Limit}
+use Rattle.snap_core.specs.declared.writers.Writers.TheVariants.{One}
 use Rattle.snap_threads.specs.Cuttings.{IsPieces, IsWorkers}
 use Rattle.snap_words.specs.CommandLine.{program_app}
 use Rattle.snap_record.specs.Plans.{AreRoundsWithin}
 use Rattle.snap_words.specs.Drawing.{AsksPlace}
-use Rattle.snap_words.specs.Jobs.{AreViews, AsksCheck, AsksFollow, AsksLimit, AsksRecordWithin, AsksStatsWithin, Checking, Flags, IsOneForm, IsWindow, SaysColor, SaysOr, files_of, flag_text, format_text, inputs_at, inputs_in, names_unheeded, names_windows, object_format, plain_check, usual_late, usual_rounds, usual_window}
+use Rattle.snap_words.specs.Jobs.{AreViews, AsksCheck, AsksFollow, AsksRecordWithin, AsksStatsWithin, Checking, Flags, IsOneForm, IsWindow, SaysColor, SaysOr, files_of, flag_text, format_text, inputs_at, inputs_in, names_unheeded, names_windows, object_format, plain_check, usual_late, usual_rounds, usual_window}
+use Rattle.snap_words.specs.Limits.{AsksEvents, AsksLimit, SaysWriters, usual_many}
 use Rattle.snap_words.specs.Lines.{Means}
 use Rattle.snap_words.specs.declared.drawing.Place.TheVariants.{Faults}
 use Rattle.snap_words.specs.declared.format.Format.TheVariants.{Plain}
@@ -40,20 +44,30 @@ pub means : (words : List Text) (command : Text) (Asks : List Row → Type 0) (f
 means words command Asks files taken named asks files_are =
     record { rows = rows_by words; taken = taken; rows_are = rows_behind _ command named; asks = asks; files_are = files_are }
 
-pub usual_limit : (rows : List Row) → one_of (codes "events") rows ≡ Some (codes "65536") → AsksLimit event_limit rows
-usual_limit rows is = record { events_fit = (omega arith, omega arith); events_are = is ∙ ap Some (sym usual_text) }
+pub usual_events : (rows : List Row) → one_of (codes "events") rows ≡ Some (codes "65536") → AsksEvents event_limit rows
+usual_events rows is = record { events_fit = (omega arith, omega arith); events_are = is ∙ ap Some (sym usual_text) }
 
-pub greatest_limit : (rows : List Row) → one_of (codes "events") rows ≡ Some (codes "1048576") → AsksLimit 1048576 rows
-greatest_limit rows is = record { events_fit = (omega arith, omega arith); events_are = is ∙ ap Some (sym million_text) }
+pub greatest_events : (rows : List Row) → one_of (codes "events") rows ≡ Some (codes "1048576") → AsksEvents 1048576 rows
+greatest_events rows is = record { events_fit = (omega arith, omega arith); events_are = is ∙ ap Some (sym million_text) }
 
-pub small_limit : (rows : List Row) → one_of (codes "events") rows ≡ Some (codes "100") → AsksLimit 100 rows
-small_limit rows is = record { events_fit = (omega arith, omega arith); events_are = is ∙ ap Some (sym hundred_text) }
+pub small_events : (rows : List Row) → one_of (codes "events") rows ≡ Some (codes "100") → AsksEvents 100 rows
+small_events rows is = record { events_fit = (omega arith, omega arith); events_are = is ∙ ap Some (sym hundred_text) }
+
+pub asks_usual : (rows : List Row) → one_of (codes "events") rows ≡ Some (codes "65536") → first_of (codes "writers") rows ≡ None → AsksLimit usual_limit rows
+asks_usual rows is none = record { events_are = is ∙ ap Some (sym usual_text); writers_are = subst (λ text. SaysWriters text One) (sym none) refl }
+
+pub asks_greatest : (rows : List Row) → one_of (codes "events") rows ≡ Some (codes "1048576") → first_of (codes "writers") rows ≡ None → AsksLimit greatest_limit rows
+asks_greatest rows is none = record { events_are = is ∙ ap Some (sym million_text); writers_are = subst (λ text. SaysWriters text One) (sym none) refl }
+
+pub asks_many : (rows : List Row) → one_of (codes "events") rows ≡ Some (codes "65536") → first_of (codes "writers") rows ≡ Some (codes "many") → AsksLimit usual_many rows
+asks_many rows is many = record { events_are = is ∙ ap Some (sym usual_text); writers_are = subst (λ text. SaysWriters text usual_many.writers) (sym many) refl }
 
 -- all that the options of a check say, so that its rows are computed once
 pub record Said : Type 0 where
   pub pieces : Option Text
   pub workers : Option Text
   pub events : Option Text
+  pub writers : Option Text
   pub views : Option Text
   pub quiet : Option Text
   pub format : Option Text
@@ -75,6 +89,7 @@ said_in rows = record {
   pieces = one_of (codes "pieces") rows;
   workers = one_of (codes "workers") rows;
   events = one_of (codes "events") rows;
+  writers = first_of (codes "writers") rows;
   views = one_of (codes "views") rows;
   quiet = one_of (codes "quiet") rows;
   format = first_of (codes "format") rows;
@@ -92,12 +107,13 @@ said_in rows = record {
   folder = first_of (codes "folder") rows;
 }
 
--- what is said where this is asked for, by these texts of numbers and colours or without
-abbrev pub saying : Checking → Option Text → Option Text → Option Text → Bool → Said
-saying asked pieces workers color unheeded = record {
+-- what is said where this is asked for, by these texts of numbers, writers and colours or without
+abbrev pub saying : Checking → Option Text → Option Text → Option Text → Option Text → Bool → Said
+saying asked pieces workers writers color unheeded = record {
   pieces = pieces;
   workers = workers;
-  events = Some (decimal asked.events);
+  events = Some (decimal asked.limit.events);
+  writers = writers;
   views = Some (decimal asked.options.views);
   quiet = Some (flag_text asked.options.quiet);
   format = Some (format_text asked.options.format);
@@ -116,26 +132,29 @@ saying asked pieces workers color unheeded = record {
 }
 
 -- what is asked for goes together with these files, and its numbers are in their ranges and what these texts say
-pub record Fit (asked : Checking) (files : List Text) (pieces workers color : Option Text) : Type 0 where
+pub record Fit (asked : Checking) (files : List Text) (pieces workers writers color : Option Text) : Type 0 where
   pub pieces_fit : IsPieces asked.pieces
   pub workers_fit : IsWorkers asked.workers
-  pub events_fit : IsLimit asked.events
-  pub views_fit : AreViews asked.events asked.options.views
+  pub views_fit : AreViews asked.limit.events asked.options.views
   pub one_form : IsOneForm asked.options
   pub null_ends : asked.null ≡ true → IsSome asked.list
   pub input_once : inputs_in files + inputs_at asked.list ≤ 1
   pub pieces_are : SaysOr 8 pieces asked.pieces
   pub finer_is : asked.options.finer ≡ is_none pieces
   pub workers_are : SaysOr 2 workers asked.workers
+  pub writers_are : SaysWriters writers asked.limit.writers
   pub color_is : SaysColor color asked.options.color
 
 -- a check is asked for where its options say so
-pub asks_check : {pieces workers color : Option Text} → (rows : List Row) (asked : Checking) (files : List Text) (unheeded : Bool)
-    → Fit asked files pieces workers color → said_in rows ≡ saying asked pieces workers color unheeded → files_of rows ≡ files → AsksCheck rows asked
+pub asks_check : {pieces workers writers color : Option Text} → (rows : List Row) (asked : Checking) (files : List Text) (unheeded : Bool)
+    → Fit asked files pieces workers writers color → said_in rows ≡ saying asked pieces workers writers color unheeded → files_of rows ≡ files → AsksCheck rows asked
 asks_check rows asked files unheeded fit said files_are = record {
   pieces_fit = fit.pieces_fit;
   workers_fit = fit.workers_fit;
-  limit = record { events_fit = fit.events_fit; events_are = ap (λ s. s.events) said };
+  limit_is = record {
+    events_are = ap (λ s. s.events) said;
+    writers_are = subst (λ text. SaysWriters text asked.limit.writers) (sym (ap (λ s. s.writers) said)) fit.writers_are;
+  };
   views_fit = fit.views_fit;
   one_form = fit.one_form;
   null_ends = fit.null_ends;
@@ -157,12 +176,12 @@ asks_check rows asked files unheeded fit said files_are = record {
 }
 
 -- options of a plain check fit, of files of which at most one is standard input
-pub plain_fit : {color : Option Text} → (events : ℕ) (options : Options) (files : List Text) → IsLimit events → AreViews events options.views → IsOneForm options
-    → options.finer ≡ true → SaysColor color options.color → inputs_in files ≤ 1 → Fit (record plain_check { events = events; options = options }) files None None color
-plain_fit events options files events_fit views_fit one_form finer color once = record {
+pub plain_fit : {writers color : Option Text} → (limit : Limit) (options : Options) (files : List Text) → AreViews limit.events options.views → IsOneForm options
+    → options.finer ≡ true → SaysWriters writers limit.writers → SaysColor color options.color → inputs_in files ≤ 1
+    → Fit (record plain_check { limit = limit; options = options }) files None None writers color
+plain_fit limit options files views_fit one_form finer writers color once = record {
   pieces_fit = (omega arith, omega arith);
   workers_fit = (omega arith, omega arith);
-  events_fit = events_fit;
   views_fit = views_fit;
   one_form = one_form;
   null_ends = λ null. absurd (false≢true null);
@@ -170,6 +189,7 @@ plain_fit events options files events_fit views_fit one_form finer color once = 
   pieces_are = refl;
   finer_is = finer;
   workers_are = refl;
+  writers_are = writers;
   color_is = color;
 }
 
@@ -181,18 +201,19 @@ whole options is_whole no_sums = record {
 }
 
 -- lines of `check`
-pub check_of : {pieces workers color : Option Text} → (words : List Text) (asked : Checking) (files : List Text) (unheeded : Bool)
-    → Fit asked files pieces workers color → takes program_app words ≡ true → command_in (subcommand_of program_app words) ≡ Some (codes "check")
-    → said_in (rows_by words) ≡ saying asked pieces workers color unheeded → files_of (rows_by words) ≡ files
+pub check_of : {pieces workers writers color : Option Text} → (words : List Text) (asked : Checking) (files : List Text) (unheeded : Bool)
+    → Fit asked files pieces workers writers color → takes program_app words ≡ true → command_in (subcommand_of program_app words) ≡ Some (codes "check")
+    → said_in (rows_by words) ≡ saying asked pieces workers writers color unheeded → files_of (rows_by words) ≡ files
     → Means words (codes "check") (λ rows. AsksCheck rows asked) files
 check_of words asked files unheeded fit taken named said files_are =
     means words (codes "check") (λ rows. AsksCheck rows asked) files taken named
     (asks_check (rows_by words) asked files unheeded fit said files_are) files_are
 
 -- what is said where windows are asked for, by these texts of numbers or without
-abbrev pub following : ℕ → Windows → Option Text → Option Text → Option Text → Said → Said
-following events windows window idle late said = record said {
-  events = Some (decimal events);
+abbrev pub following : Limit → Windows → Option Text → Option Text → Option Text → Said → Said
+following limit windows window idle late said = record said {
+  events = Some (decimal limit.events);
+  writers = None;
   views = Some (decimal windows.views);
   quiet = Some (flag_text false);
   format = Some (format_text Plain);
@@ -206,15 +227,18 @@ following events windows window idle late said = record said {
 }
 
 -- lines of `check --follow`
-pub follow_of : {window idle late : Option Text} → (words : List Text) (events : ℕ) (windows : Windows) (files : List Text) → IsLimit events
-    → AreViews events windows.views → IsWindow events windows.least → windows.idle ≤ NUMBER_LIMIT → windows.late ≤ event_cap → length files ≤ 1
-    → SaysOr (usual_window events) window windows.least → SaysOr 0 idle windows.idle → SaysOr usual_late late windows.late → takes program_app words ≡ true
+pub follow_of : {window idle late : Option Text} → (words : List Text) (limit : Limit) (windows : Windows) (files : List Text) → limit.writers ≡ One
+    → AreViews limit.events windows.views → IsWindow limit.events windows.least → windows.idle ≤ NUMBER_LIMIT → windows.late ≤ event_cap → length files ≤ 1
+    → SaysOr (usual_window limit.events) window windows.least → SaysOr 0 idle windows.idle → SaysOr usual_late late windows.late → takes program_app words ≡ true
     → command_in (subcommand_of program_app words) ≡ Some (codes "check")
-    → said_in (rows_by words) ≡ following events windows window idle late (said_in (rows_by words)) → files_of (rows_by words) ≡ files
-    → Means words (codes "check") (λ rows. AsksFollow events rows windows) files
-follow_of words events windows files events_fit views_fit window_fits idle_fits late_fits one_file window_is idle_is late_is taken named said files_are =
-    means words (codes "check") (λ rows. AsksFollow events rows windows) files taken named (record {
-      limit = record { events_fit = events_fit; events_are = ap (λ s. s.events) said };
+    → said_in (rows_by words) ≡ following limit windows window idle late (said_in (rows_by words)) → files_of (rows_by words) ≡ files
+    → Means words (codes "check") (λ rows. AsksFollow limit rows windows) files
+follow_of words limit windows files one_writer views_fit window_fits idle_fits late_fits one_file window_is idle_is late_is taken named said files_are =
+    means words (codes "check") (λ rows. AsksFollow limit rows windows) files taken named (record {
+      limit_is = record {
+        events_are = ap (λ s. s.events) said;
+        writers_are = subst (λ text. SaysWriters text limit.writers) (sym (ap (λ s. s.writers) said)) one_writer;
+      };
       views_fit = views_fit;
       window_fits = window_fits;
       idle_fits = idle_fits;
@@ -227,7 +251,7 @@ follow_of words events windows files events_fit views_fit window_fits idle_fits 
       summary_is = ap (λ s. s.summary) said;
       null_is = ap (λ s. s.null) said;
       views_are = ap (λ s. s.views) said;
-      window_is = subst (λ text. SaysOr (usual_window events) text windows.least) (sym (ap (λ s. s.window) said)) window_is;
+      window_is = subst (λ text. SaysOr (usual_window limit.events) text windows.least) (sym (ap (λ s. s.window) said)) window_is;
       idle_is = subst (λ text. SaysOr 0 text windows.idle) (sym (ap (λ s. s.idle) said)) idle_is;
       late_is = subst (λ text. SaysOr usual_late text windows.late) (sym (ap (λ s. s.late) said)) late_is;
     }) files_are
@@ -247,22 +271,22 @@ pub no_place : (rows : List Row) → one_of (codes "from") rows ≡ None → one
 no_place rows from around = record { from_fits = no_number _; around_fits = no_number _; from_is = from; around_is = around }
 
 -- lines of `stats`
-pub stats_of : (events : ℕ) (json : Bool) (files : List Text) (words : List Text)
+pub stats_of : (limit : Limit) (json : Bool) (files : List Text) (words : List Text)
     → takes program_app words ≡ true → command_in (subcommand_of program_app words) ≡ Some (codes "stats")
-    → first_of (codes "format") (rows_by words) ≡ Some (format_text (object_format json)) → AsksLimit events (rows_by words)
+    → first_of (codes "format") (rows_by words) ≡ Some (format_text (object_format json)) → AsksLimit limit (rows_by words)
     → inputs_in files ≤ 1 → files_of (rows_by words) ≡ files
-    → Means words (codes "stats") (AsksStatsWithin events json) files
-stats_of events json files words taken named format_is limit once files_are =
-    means words (codes "stats") (AsksStatsWithin events json) files taken named (record {
+    → Means words (codes "stats") (AsksStatsWithin limit json) files
+stats_of limit json files words taken named format_is limit_is once files_are =
+    means words (codes "stats") (AsksStatsWithin limit json) files taken named (record {
       format_is = format_is;
-      limit = limit;
+      limit_is = limit_is;
       input_once = subst (λ (names : List Text). inputs_in names ≤ 1) (sym files_are) once;
     }) files_are
 
 -- lines of `record` with 2 workers, as where nothing else is said
 pub usual_record : {said : Option Text} → {sown : Text} → (events : ℕ) (words : List Text) (rounds seed : ℕ) (flags : Flags)
     → takes program_app words ≡ true → command_in (subcommand_of program_app words) ≡ Some (codes "record")
-    → AsksLimit events (rows_by words) → AreRoundsWithin events rounds → seed ≤ NUMBER_LIMIT → (flags.judge ≡ true → flags.stamped ≡ false)
+    → AsksEvents events (rows_by words) → AreRoundsWithin events rounds → seed ≤ NUMBER_LIMIT → (flags.judge ≡ true → flags.stamped ≡ false)
     → one_of (codes "workers") (rows_by words) ≡ Some (codes "2") → one_of (codes "rounds") (rows_by words) ≡ said → SaysOr (usual_rounds events) said rounds
     → one_of (codes "seed") (rows_by words) ≡ Some sown → sown ≡ decimal seed
     → one_of (codes "judge") (rows_by words) ≡ Some (flag_text flags.judge) → one_of (codes "scan") (rows_by words) ≡ Some (flag_text flags.scan)

@@ -33,6 +33,10 @@ views_rule = record (new_rule (codes "views")) { long = Some (codes "views"); va
 abbrev pub events_rule : Rule
 events_rule = record (new_rule (codes "events")) { long = Some (codes "events"); value_names = 1; parser = Some (Signed (pos 1) (pos event_cap)); defaults = codes "65536" ∷ [] }
 
+-- --writers WRITERS; the parser takes any text
+abbrev pub writers_rule : Rule
+writers_rule = record (new_rule (codes "writers")) { long = Some (codes "writers"); value_names = 1 }
+
 -- --format FORMAT, or plain if it is not given; the parser takes any text
 abbrev pub format_rule : Rule
 format_rule = record (new_rule (codes "format")) { long = Some (codes "format"); value_names = 1; defaults = codes "plain" ∷ [] }
@@ -86,11 +90,12 @@ abbrev pub folder_rule : Rule
 folder_rule = record (new_rule (codes "folder")) { long = Some (codes "recursive"); short = Some 114; value_names = 1 }
 
 -- check [--pieces P] [--workers W] [--files-from LIST [--null]] [--recursive FOLDER] [--quiet] [--views N] [--events N]
--- [--format FORMAT] [--summary] [--follow] [--window N] [--idle SECONDS] [--late N] [--no-progress] [--color WHEN] [FILE ..]
+-- [--writers WRITERS] [--format FORMAT] [--summary] [--follow] [--window N] [--idle SECONDS] [--late N] [--no-progress]
+-- [--color WHEN] [FILE ..]
 abbrev pub check_app : App
 check_app = with_rules (new_app (codes "check"))
-    (pieces_rule ∷ workers_rule ∷ list_rule ∷ null_rule ∷ folder_rule ∷ quiet_rule ∷ views_rule ∷ events_rule ∷ format_rule ∷ summary_rule
-    ∷ follow_rule ∷ window_rule ∷ idle_rule ∷ late_rule ∷ no_progress_rule ∷ color_rule ∷ files_rule ∷ [])
+    (pieces_rule ∷ workers_rule ∷ list_rule ∷ null_rule ∷ folder_rule ∷ quiet_rule ∷ views_rule ∷ events_rule ∷ writers_rule ∷ format_rule
+    ∷ summary_rule ∷ follow_rule ∷ window_rule ∷ idle_rule ∷ late_rule ∷ no_progress_rule ∷ color_rule ∷ files_rule ∷ [])
 
 -- --draw
 abbrev pub draw_rule : Rule
@@ -100,9 +105,9 @@ draw_rule = record (new_rule (codes "draw")) { long = Some (codes "draw"); actio
 abbrev pub map_rule : Rule
 map_rule = record (new_rule (codes "map")) { long = Some (codes "map"); action = Some SetTrue }
 
--- shrink [--draw] [--map] [--events N] [FILE]
+-- shrink [--draw] [--map] [--events N] [--writers WRITERS] [FILE]
 abbrev pub shrink_app : App
-shrink_app = with_rules (new_app (codes "shrink")) (draw_rule ∷ map_rule ∷ events_rule ∷ file_rule ∷ [])
+shrink_app = with_rules (new_app (codes "shrink")) (draw_rule ∷ map_rule ∷ events_rule ∷ writers_rule ∷ file_rule ∷ [])
 
 -- --all
 abbrev pub all_rule : Rule
@@ -112,9 +117,9 @@ all_rule = record (new_rule (codes "all")) { long = Some (codes "all"); action =
 abbrev pub faults_rule : Rule
 faults_rule = record (new_rule (codes "faults")) { long = Some (codes "faults"); value_names = 1; parser = Some (Signed (pos 1) (pos FAULT_LIMIT)); defaults = codes "1" ∷ [] }
 
--- explain [--draw] [--all] [--faults N] [--events N] [FILE]
+-- explain [--draw] [--all] [--faults N] [--events N] [--writers WRITERS] [FILE]
 abbrev pub explain_app : App
-explain_app = with_rules (new_app (codes "explain")) (draw_rule ∷ all_rule ∷ faults_rule ∷ events_rule ∷ file_rule ∷ [])
+explain_app = with_rules (new_app (codes "explain")) (draw_rule ∷ all_rule ∷ faults_rule ∷ events_rule ∷ writers_rule ∷ file_rule ∷ [])
 
 -- --svg
 abbrev pub svg_rule : Rule
@@ -144,14 +149,14 @@ from_rule = record (new_rule (codes "from")) { long = Some (codes "from"); value
 abbrev pub around_rule : Rule
 around_rule = record (new_rule (codes "around")) { long = Some (codes "around"); value_names = 1; parser = Some (Signed (pos 1) (pos event_cap)) }
 
--- draw [--svg] [--text] [--light] [--dark] [--calls N] [--from CALL] [--around CALL] [--events N] [FILE]
+-- draw [--svg] [--text] [--light] [--dark] [--calls N] [--from CALL] [--around CALL] [--events N] [--writers WRITERS] [FILE]
 abbrev pub draw_app : App
 draw_app = with_rules (new_app (codes "draw"))
-    (svg_rule ∷ text_rule ∷ light_rule ∷ dark_rule ∷ calls_rule ∷ from_rule ∷ around_rule ∷ events_rule ∷ file_rule ∷ [])
+    (svg_rule ∷ text_rule ∷ light_rule ∷ dark_rule ∷ calls_rule ∷ from_rule ∷ around_rule ∷ events_rule ∷ writers_rule ∷ file_rule ∷ [])
 
--- stats [--format FORMAT] [--events N] [FILE ..]
+-- stats [--format FORMAT] [--events N] [--writers WRITERS] [FILE ..]
 abbrev pub stats_app : App
-stats_app = with_rules (new_app (codes "stats")) (format_rule ∷ events_rule ∷ files_rule ∷ [])
+stats_app = with_rules (new_app (codes "stats")) (format_rule ∷ events_rule ∷ writers_rule ∷ files_rule ∷ [])
 
 -- --workers W, or 2 if it is not given
 abbrev pub recorders_rule : Rule

@@ -3,7 +3,8 @@ use Rattle.std.specs.Prelude.{◌≡◌, ◌≤◌, ℕ, Bool, true, false, List
 use Rattle.std.specs.Option.{ForSome, option_map}
 use Rattle.clap.specs.Words.{Row, one_of}
 use Rattle.snap_core.specs.Events.{event_cap}
-use Rattle.snap_core.specs.Limits.{event_limit}
+use Rattle.snap_core.specs.UsualLimits.{usual_limit}
+use Rattle.snap_core.specs.declared.limit.Limit.{Limit}
 use Rattle.snap_options.specs.declared.scheme.Scheme.{Scheme}
 use Rattle.snap_options.specs.declared.scheme.Scheme.TheVariants.{Light, Dark}
 use Rattle.snap_words.specs.declared.drawing.Part.{Part}
@@ -11,7 +12,8 @@ use Rattle.snap_words.specs.declared.drawing.Place.{Place}
 use Rattle.snap_words.specs.declared.drawing.Place.TheVariants.{Faults, From, Around}
 use Rattle.snap_words.specs.declared.drawing.Form.{Form}
 use Rattle.snap_words.specs.declared.drawing.Form.TheVariants.{Lines, Page, Svg}
-use Rattle.snap_words.specs.Jobs.{AsksLimit, flag_text}
+use Rattle.snap_words.specs.Jobs.{flag_text}
+use Rattle.snap_words.specs.Limits.{AsksLimit}
 use Rattle.snap_words.specs.Parts.{HasRoom}
 
 -- whether a form has the flag --svg
@@ -68,9 +70,9 @@ pub record AsksPlace (rows : List Row) (place : Place) : Type 0 where
   pub from_is : one_of (codes "from") rows ≡ option_map decimal (from_of place)
   pub around_is : one_of (codes "around") rows ≡ option_map decimal (around_of place)
 
--- the flags of `draw` are those of a form, its numbers those of a part, for which the form has room, and the limit of events is this
-pub record AsksDrawWithin (events : ℕ) (rows : List Row) (form : Form) (part : Part) : Type 0 where
-  pub limit : AsksLimit events rows
+-- the flags of `draw` are those of a form, its numbers those of a part, for which the form has room, and the limit is this
+pub record AsksDrawWithin (limit : Limit) (rows : List Row) (form : Form) (part : Part) : Type 0 where
+  pub limit_is : AsksLimit limit rows
   pub svg_is : one_of (codes "svg") rows ≡ Some (flag_text (asks_svg form))
   pub text_is : one_of (codes "text") rows ≡ Some (flag_text (asks_text form))
   pub scheme : AsksScheme rows (scheme_of form)
@@ -84,4 +86,4 @@ usual_part = record { calls = None; place = Faults }
 
 -- what `draw` asks for if no limit and no part is chosen
 abbrev pub AsksDraw : List Row → Form → Type 0
-AsksDraw rows form = AsksDrawWithin event_limit rows form usual_part
+AsksDraw rows form = AsksDrawWithin usual_limit rows form usual_part

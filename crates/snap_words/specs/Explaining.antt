@@ -1,13 +1,15 @@
 -- What the words of `explain` ask for.
 use Rattle.std.specs.Prelude.{◌≡◌, ◌<◌, ℕ, Bool, true, List, Some, codes, decimal}
 use Rattle.clap.specs.Words.{Row, one_of}
-use Rattle.snap_core.specs.Limits.{event_limit}
-use Rattle.snap_words.specs.Jobs.{AreFaults, AsksLimit, flag_text}
+use Rattle.snap_core.specs.UsualLimits.{usual_limit}
+use Rattle.snap_core.specs.declared.limit.Limit.{Limit}
+use Rattle.snap_words.specs.Jobs.{AreFaults, flag_text}
+use Rattle.snap_words.specs.Limits.{AsksLimit}
 
 -- Whether --draw asks for a picture and --all for all entries of the views of a fault. The number of faults of a kind is that of
--- --faults, in its range, or 1, and the limit of events is this. A picture goes with one fault.
-pub record AsksExplanationWithin (events : ℕ) (drawn whole : Bool) (faults : ℕ) (rows : List Row) : Type 0 where
-  pub limit : AsksLimit events rows
+-- --faults, in its range, or 1, and the limit is this. A picture goes with one fault.
+pub record AsksExplanationWithin (limit : Limit) (drawn whole : Bool) (faults : ℕ) (rows : List Row) : Type 0 where
+  pub limit_is : AsksLimit limit rows
   pub faults_fit : AreFaults faults
   pub one_drawn : drawn ≡ true → faults ≡ 1
   pub drawn_is : one_of (codes "draw") rows ≡ Some (flag_text drawn)
@@ -16,7 +18,7 @@ pub record AsksExplanationWithin (events : ℕ) (drawn whole : Bool) (faults : �
 
 -- what `explain` asks for if no limit is chosen
 abbrev pub AsksExplanation : Bool → Bool → ℕ → List Row → Type 0
-AsksExplanation = AsksExplanationWithin event_limit
+AsksExplanation = AsksExplanationWithin usual_limit
 
 -- --draw is given, and --faults asks for more than one fault of a kind: that asks for no job
 pub record DrawsFaults (rows : List Row) : Type 0 where

@@ -6,11 +6,14 @@ use Rattle.std.specs.Str.{bytes_eq}
 use Rattle.clap.specs.Words.{Row, Text, all_of, first_of, one_of}
 use Rattle.snap_core.specs.Events.{event_cap}
 use Rattle.snap_core.specs.Limits.{IsLimit, event_limit}
+use Rattle.snap_core.specs.UsualLimits.{usual_limit}
+use Rattle.snap_core.specs.declared.limit.Limit.{Limit}
 use Rattle.snap_record.specs.Plans.{AreRounds, AreRoundsWithin, AreWorkers, worker_limit}
 use Rattle.snap_threads.specs.Cuttings.{IsPieces, IsWorkers}
 use Rattle.snap_words.specs.declared.drawing.Form.{Form}
 use Rattle.snap_words.specs.declared.drawing.Part.{Part}
 use Rattle.snap_words.specs.Parts.{HasRoom}
+use Rattle.snap_words.specs.Limits.{AsksEvents, AsksLimit}
 use Rattle.snap_words.specs.declared.job.Job.{Job}
 use Rattle.snap_words.specs.declared.job.Job.TheVariants.{Check, Follow, Shrink, Explain, Draw, Stats, Record}
 use Rattle.snap_words.specs.declared.color.Color.{Color}
@@ -75,12 +78,12 @@ abbrev pub inputs_at : Option Text → ℕ
 inputs_at None = 0
 inputs_at (Some name) = if is_input name then 1 else 0
 
--- What a check is asked for: its cutting, its limit of events and its options. Besides the words there may be a list of names, and
+-- What a check is asked for: its cutting, its limit and its options. Besides the words there may be a list of names, and
 -- whether a zero byte ends each, and a folder.
 pub record Checking : Type 0 where
   pub pieces : ℕ
   pub workers : ℕ
-  pub events : ℕ
+  pub limit : Limit
   pub options : Options
   pub list : Option Text
   pub null : Bool
@@ -92,12 +95,12 @@ no_options = record { quiet = false; views = 0; format = Plain; summary = false;
 
 -- what is asked for if no option is given
 abbrev pub plain_check : Checking
-plain_check = record { pieces = 8; workers = 2; events = event_limit; options = no_options; list = None; null = false; folder = None }
+plain_check = record { pieces = 8; workers = 2; limit = usual_limit; options = no_options; list = None; null = false; folder = None }
 
 -- the job is such a check of these files
 abbrev pub IsCheck : Checking → List Text → Job → Type 0
 IsCheck asked files (Check cutting limit options input) =
-    (cutting.pieces ≡ asked.pieces) × (cutting.workers ≡ asked.workers) × (limit.events ≡ asked.events) × (options ≡ asked.options)
+    (cutting.pieces ≡ asked.pieces) × (cutting.workers ≡ asked.workers) × (limit ≡ asked.limit) × (options ≡ asked.options)
     × (texts_of input.files.items ≡ files) × (text_of input.list ≡ asked.list) × (input.null ≡ asked.null) × (text_of input.folder ≡ asked.folder)
 IsCheck asked files (Follow limit windows file) = ⊥
 IsCheck asked files (Shrink shrunk limit file) = ⊥
@@ -106,55 +109,55 @@ IsCheck asked files (Draw form part limit file) = ⊥
 IsCheck asked files (Stats json limit names) = ⊥
 IsCheck asked files (Record w rounds judge scan stamped seed) = ⊥
 
--- the job judges a recording while it grows: the only one of these files, with windows of at most `events` events
-abbrev pub IsFollow : ℕ → Windows → List Text → Job → Type 0
-IsFollow events windows files (Check cutting limit options input) = ⊥
-IsFollow events windows files (Follow limit asked file) = (limit.events ≡ events) × (asked ≡ windows) × (text_of file ≡ first_name files)
-IsFollow events windows files (Shrink shrunk limit file) = ⊥
-IsFollow events windows files (Explain drawn whole faults limit file) = ⊥
-IsFollow events windows files (Draw form part limit file) = ⊥
-IsFollow events windows files (Stats json limit names) = ⊥
-IsFollow events windows files (Record w rounds judge scan stamped seed) = ⊥
+-- the job judges a recording while it grows: the only one of these files, with windows within this limit
+abbrev pub IsFollow : Limit → Windows → List Text → Job → Type 0
+IsFollow limit windows files (Check cutting given options input) = ⊥
+IsFollow limit windows files (Follow given asked file) = (given ≡ limit) × (asked ≡ windows) × (text_of file ≡ first_name files)
+IsFollow limit windows files (Shrink shrunk given file) = ⊥
+IsFollow limit windows files (Explain drawn whole faults given file) = ⊥
+IsFollow limit windows files (Draw form part given file) = ⊥
+IsFollow limit windows files (Stats json given names) = ⊥
+IsFollow limit windows files (Record w rounds judge scan stamped seed) = ⊥
 
--- the job cuts down the history in the first of these files, of at most `events` events, and writes this of it
-abbrev pub IsShrink : ℕ → Shrunk → List Text → Job → Type 0
-IsShrink events shrunk files (Check cutting limit options input) = ⊥
-IsShrink events shrunk files (Follow limit windows file) = ⊥
-IsShrink events shrunk files (Shrink asked limit file) = (asked ≡ shrunk) × (limit.events ≡ events) × (text_of file ≡ first_name files)
-IsShrink events shrunk files (Explain drawn whole faults limit file) = ⊥
-IsShrink events shrunk files (Draw form part limit file) = ⊥
-IsShrink events shrunk files (Stats json limit names) = ⊥
-IsShrink events shrunk files (Record w rounds judge scan stamped seed) = ⊥
+-- the job cuts down the history in the first of these files, within this limit, and writes this of it
+abbrev pub IsShrink : Limit → Shrunk → List Text → Job → Type 0
+IsShrink limit shrunk files (Check cutting given options input) = ⊥
+IsShrink limit shrunk files (Follow given windows file) = ⊥
+IsShrink limit shrunk files (Shrink asked given file) = (asked ≡ shrunk) × (given ≡ limit) × (text_of file ≡ first_name files)
+IsShrink limit shrunk files (Explain drawn whole faults given file) = ⊥
+IsShrink limit shrunk files (Draw form part given file) = ⊥
+IsShrink limit shrunk files (Stats json given names) = ⊥
+IsShrink limit shrunk files (Record w rounds judge scan stamped seed) = ⊥
 
 -- the job explains it, with a picture or without, with all entries of the views of a fault or without, and with this many faults
-abbrev pub IsExplain : ℕ → Bool → Bool → ℕ → List Text → Job → Type 0
-IsExplain events drawn whole faults files (Check cutting limit options input) = ⊥
-IsExplain events drawn whole faults files (Follow limit windows file) = ⊥
-IsExplain events drawn whole faults files (Shrink asked limit file) = ⊥
-IsExplain events drawn whole faults files (Explain asked all told limit file) = (asked ≡ drawn) × (all ≡ whole) × (told ≡ faults) × (limit.events ≡ events) × (text_of file ≡ first_name files)
-IsExplain events drawn whole faults files (Draw form part limit file) = ⊥
-IsExplain events drawn whole faults files (Stats json limit names) = ⊥
-IsExplain events drawn whole faults files (Record w rounds judge scan stamped seed) = ⊥
+abbrev pub IsExplain : Limit → Bool → Bool → ℕ → List Text → Job → Type 0
+IsExplain limit drawn whole faults files (Check cutting given options input) = ⊥
+IsExplain limit drawn whole faults files (Follow given windows file) = ⊥
+IsExplain limit drawn whole faults files (Shrink asked given file) = ⊥
+IsExplain limit drawn whole faults files (Explain asked all told given file) = (asked ≡ drawn) × (all ≡ whole) × (told ≡ faults) × (given ≡ limit) × (text_of file ≡ first_name files)
+IsExplain limit drawn whole faults files (Draw form part given file) = ⊥
+IsExplain limit drawn whole faults files (Stats json given names) = ⊥
+IsExplain limit drawn whole faults files (Record w rounds judge scan stamped seed) = ⊥
 
 -- the job draws a part of it in a form
-abbrev pub IsDraw : ℕ → Form → Part → List Text → Job → Type 0
-IsDraw events form part files (Check cutting limit options input) = ⊥
-IsDraw events form part files (Follow limit windows file) = ⊥
-IsDraw events form part files (Shrink shrunk limit file) = ⊥
-IsDraw events form part files (Explain drawn whole faults limit file) = ⊥
-IsDraw events form part files (Draw asked cut limit file) = (asked ≡ form) × (cut ≡ part) × (limit.events ≡ events) × (text_of file ≡ first_name files)
-IsDraw events form part files (Stats json limit names) = ⊥
-IsDraw events form part files (Record w rounds judge scan stamped seed) = ⊥
+abbrev pub IsDraw : Limit → Form → Part → List Text → Job → Type 0
+IsDraw limit form part files (Check cutting given options input) = ⊥
+IsDraw limit form part files (Follow given windows file) = ⊥
+IsDraw limit form part files (Shrink shrunk given file) = ⊥
+IsDraw limit form part files (Explain drawn whole faults given file) = ⊥
+IsDraw limit form part files (Draw asked cut given file) = (asked ≡ form) × (cut ≡ part) × (given ≡ limit) × (text_of file ≡ first_name files)
+IsDraw limit form part files (Stats json given names) = ⊥
+IsDraw limit form part files (Record w rounds judge scan stamped seed) = ⊥
 
 -- the job counts what the history in each of these files has shown, as objects or as lines
-abbrev pub IsStats : ℕ → Bool → List Text → Job → Type 0
-IsStats events json files (Check cutting limit options input) = ⊥
-IsStats events json files (Follow limit windows file) = ⊥
-IsStats events json files (Shrink shrunk limit file) = ⊥
-IsStats events json files (Explain drawn whole faults limit file) = ⊥
-IsStats events json files (Draw form part limit file) = ⊥
-IsStats events json files (Stats asked limit names) = (asked ≡ json) × (limit.events ≡ events) × (texts_of names.items ≡ files)
-IsStats events json files (Record w rounds judge scan stamped seed) = ⊥
+abbrev pub IsStats : Limit → Bool → List Text → Job → Type 0
+IsStats limit json files (Check cutting given options input) = ⊥
+IsStats limit json files (Follow given windows file) = ⊥
+IsStats limit json files (Shrink shrunk given file) = ⊥
+IsStats limit json files (Explain drawn whole faults given file) = ⊥
+IsStats limit json files (Draw form part given file) = ⊥
+IsStats limit json files (Stats asked given names) = (asked ≡ json) × (given ≡ limit) × (texts_of names.items ≡ files)
+IsStats limit json files (Record w rounds judge scan stamped seed) = ⊥
 
 -- the flags of a recording: its report in place of its history, scans in place of views, and the stamps of its events
 pub record Flags : Type 0 where
@@ -181,11 +184,6 @@ abbrev pub flag_text : Bool → List ℕ
 flag_text true = codes "true"
 flag_text false = codes "false"
 
--- the limit of events that --events chooses, or the usual one
-pub record AsksLimit (events : ℕ) (rows : List Row) : Type 0 where
-  pub events_fit : IsLimit events
-  pub events_are : one_of (codes "events") rows ≡ Some (decimal events)
-
 -- the files that are named, or none if the word is absent
 abbrev pub given_or_none : Option (List Text) → List Text
 given_or_none None = []
@@ -205,10 +203,10 @@ abbrev pub object_format : Bool → Format
 object_format true = Json
 object_format false = Plain
 
--- whether --format asks for an object, and the limit of events; standard input is named at most once
-pub record AsksStatsWithin (events : ℕ) (json : Bool) (rows : List Row) : Type 0 where
+-- whether --format asks for an object, and the limit; standard input is named at most once
+pub record AsksStatsWithin (limit : Limit) (json : Bool) (rows : List Row) : Type 0 where
   pub format_is : first_of (codes "format") rows ≡ Some (format_text (object_format json))
-  pub limit : AsksLimit events rows
+  pub limit_is : AsksLimit limit rows
   pub input_once : inputs_in (files_of rows) ≤ 1
 
 -- the files name standard input more than once
@@ -217,7 +215,7 @@ NamesInputTwice rows = 1 < inputs_in (files_of rows)
 
 -- what `stats` asks for if no limit is chosen
 abbrev pub AsksStats : Bool → List Row → Type 0
-AsksStats = AsksStatsWithin event_limit
+AsksStats = AsksStatsWithin usual_limit
 
 -- the word that says when verdicts have colours
 abbrev pub color_text : Color → List ℕ
@@ -253,11 +251,11 @@ pub record LacksFollow (rows : List Row) : Type 0 where
   pub no_follow : one_of (codes "follow") rows ≡ Some (flag_text false)
   pub windows_named : names_windows rows ≡ true
 
--- Whether an option is given that has no use with --follow: --pieces, --workers, --color, --files-from or --recursive.
+-- Whether an option is given that has no use with --follow: --pieces, --workers, --writers, --color, --files-from or --recursive.
 abbrev pub names_unheeded : List Row → Bool
 names_unheeded rows =
-    is_some (first_of (codes "pieces") rows) || is_some (first_of (codes "workers") rows) || is_some (first_of (codes "color") rows)
-    || is_some (first_of (codes "list") rows) || is_some (first_of (codes "folder") rows)
+    is_some (first_of (codes "pieces") rows) || is_some (first_of (codes "workers") rows) || is_some (first_of (codes "writers") rows)
+    || is_some (first_of (codes "color") rows) || is_some (first_of (codes "list") rows) || is_some (first_of (codes "folder") rows)
 
 -- --follow is given, and such an option too: that asks for no job
 pub record FollowsUnheeding (rows : List Row) : Type 0 where
@@ -270,8 +268,8 @@ pub record FollowsUnheeding (rows : List Row) : Type 0 where
 pub record AsksCheck (rows : List Row) (asked : Checking) : Type 0 where
   pub pieces_fit : IsPieces asked.pieces
   pub workers_fit : IsWorkers asked.workers
-  pub limit : AsksLimit asked.events rows
-  pub views_fit : AreViews asked.events asked.options.views
+  pub limit_is : AsksLimit asked.limit rows
+  pub views_fit : AreViews asked.limit.events asked.options.views
   pub one_form : IsOneForm asked.options
   pub null_ends : asked.null ≡ true → IsSome asked.list
   pub input_once : inputs_in (files_of rows) + inputs_at asked.list ≤ 1
@@ -292,10 +290,10 @@ pub record AsksCheck (rows : List Row) (asked : Checking) : Type 0 where
 
 -- The options of `check` ask for windows with these numbers, which are in their ranges, of one recording. They ask for nothing else
 -- that has no use with windows.
-pub record AsksFollow (events : ℕ) (rows : List Row) (windows : Windows) : Type 0 where
-  pub limit : AsksLimit events rows
-  pub views_fit : AreViews events windows.views
-  pub window_fits : IsWindow events windows.least
+pub record AsksFollow (limit : Limit) (rows : List Row) (windows : Windows) : Type 0 where
+  pub limit_is : AsksLimit limit rows
+  pub views_fit : AreViews limit.events windows.views
+  pub window_fits : IsWindow limit.events windows.least
   pub idle_fits : windows.idle ≤ NUMBER_LIMIT
   pub late_fits : windows.late ≤ event_cap
   pub one_file : length (files_of rows) ≤ 1
@@ -306,7 +304,7 @@ pub record AsksFollow (events : ℕ) (rows : List Row) (windows : Windows) : Typ
   pub summary_is : one_of (codes "summary") rows ≡ Some (flag_text false)
   pub null_is : one_of (codes "null") rows ≡ Some (flag_text false)
   pub views_are : one_of (codes "views") rows ≡ Some (decimal windows.views)
-  pub window_is : SaysOr (usual_window events) (one_of (codes "window") rows) windows.least
+  pub window_is : SaysOr (usual_window limit.events) (one_of (codes "window") rows) windows.least
   pub idle_is : SaysOr 0 (one_of (codes "idle") rows) windows.idle
   pub late_is : SaysOr usual_late (one_of (codes "late") rows) windows.late
 
@@ -317,7 +315,7 @@ usual_rounds events = min 16 (events / (4 * worker_limit))
 -- The options of `record` have these numbers of workers and rounds, and this seed. The rounds are those of --rounds or the usual
 -- ones, in their range for the limit of events. Each flag is given or not, but they do not ask for a report with stamps.
 pub record AsksRecordWithin (events : ℕ) (rows : List Row) (workers rounds seed : ℕ) (flags : Flags) : Type 0 where
-  pub limit : AsksLimit events rows
+  pub limit : AsksEvents events rows
   pub workers_fit : AreWorkers workers
   pub rounds_fit : AreRoundsWithin events rounds
   pub seed_fits : seed ≤ NUMBER_LIMIT
@@ -333,7 +331,7 @@ pub record AsksRecordWithin (events : ℕ) (rows : List Row) (workers rounds see
 pub record AsksTooManyRounds (rows : List Row) : Type 0 where
   pub events : ℕ
   pub rounds : ℕ
-  pub limit : AsksLimit events rows
+  pub limit : AsksEvents events rows
   pub rounds_are : one_of (codes "rounds") rows ≡ Some (decimal rounds)
   pub is_number : rounds ≤ NUMBER_LIMIT
   pub too_many : events < 4 * worker_limit * rounds

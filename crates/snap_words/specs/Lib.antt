@@ -4,6 +4,7 @@ pub mod Drawing
 pub mod Shrinking
 pub mod Explaining
 pub mod Inputs
+pub mod Limits
 pub mod Jobs
 pub mod Lines
 pub mod Tables

@@ -5,7 +5,7 @@ ghost use Rattle.clap.specs.declared.builder.command.Command.TheViews.{out-Comma
 ghost use Rattle.snap_words.specs.CommandLine.{check_app};
 
 use crate::command::command_of;
-use crate::word::{EVENTS, FILES, NUMBER_LIMIT, Takes, Word};
+use crate::word::{EVENTS, FILES, NUMBER_LIMIT, Takes, WRITERS, Word};
 use clap::Command;
 use snap_core::EVENT_CAP;
 use snap_threads::{PIECE_LIMIT, WORKER_LIMIT};
@@ -47,6 +47,10 @@ empty recording for a good one.
 A history has at most 65,536 events, and its text 67,108,864 bytes. With --events N it may have N
 events, up to 1,048,576, and its text N times 1,024 bytes. Memory and time rise with them.
 
+A component has one writer. With --writers many each process may write it. Its updates are numbered
+as they begin, may overlap, and end in the order of their numbers. Such a history is atomic if an
+order of its calls explains every view and keeps the numbers of each component rising.
+
 Of several files the reports stand in the order of the names. Each line has the file's name and
 a colon before it, and the status is the greatest. A file that can't be opened or read counts
 as 4: standard error says why, and the others are judged all the same.
@@ -66,8 +70,8 @@ how many have each status, with the first of them. Not with --quiet, and not wit
 With --follow one recording is judged while it grows, window by window: a file, or all *.csv below a
 folder. Each window ends at a moment at which no call is open, and the next one begins from what was
 left. Each is answered by a line, and the sums come at the end. With --idle N that is when nothing has
-come for N seconds. Records with stamps may come up to 1,000 records late, or N with --late N. Not with --quiet, --format json or junit, or --summary, nor with --pieces, --workers
-or --color.
+come for N seconds. Records with stamps may come up to 1,000 records late, or N with --late N. Not
+with --quiet, --format json or junit, or --summary, nor with --pieces, --workers, --writers or --color.
 
 On a terminal a line on standard error shows how far it is, where there are more than 100 files or a
 second has passed. --no-progress leaves it out. The verdicts have colours there, unless --color never
@@ -146,6 +150,7 @@ const WORDS: &[Word<'static>] = &[
         help: "How many completed views the history must have, from 0 to half of its events: 32768",
     },
     EVENTS,
+    WRITERS,
     Word {
         id: "format",
         long: Some("format"),

@@ -1,6 +1,7 @@
 //! The job that each command asks for by its options.
 ghost use Rattle.std.specs.Prelude.{◌≡◌, ℕ, Bool, List, Some, codes, IfSome, IsNone, IsSomeAnd, true, false};
 ghost use Rattle.clap.specs.Words.{Row, Text, found_of, rows_of};
+ghost use Rattle.snap_core.specs.declared.limit.Limit.{Limit};
 ghost use Rattle.snap_words.specs.Drawing.{AsksDrawWithin};
 ghost use Rattle.snap_words.specs.Explaining.{AsksExplanationWithin, DrawsFaults};
 ghost use Rattle.snap_words.specs.Inputs.{IsInputOf};
@@ -91,7 +92,7 @@ fn check_in(matches: &ArgMatches<'_>, input: Input) -> Option<Job>
 // Whether the options of `check` are all of use with --follow, and name at most one recording.
 fn follows_alone(matches: &ArgMatches<'_>, input: &Input) -> bool
     requires named { IsInputOf (rows_of (found_of matches.now)) input.now }
-    ensures asked { (events : ℕ) (windows : Windows) → AsksFollow events (rows_of (found_of matches.now)) windows → result ≡ true }
+    ensures asked { (limit : Limit) (windows : Windows) → AsksFollow limit (rows_of (found_of matches.now)) windows → result ≡ true }
     ensures unheeded { FollowsUnheeding (rows_of (found_of matches.now)) → result ≡ false }
 {
     if names_unheeded(matches) {
@@ -116,7 +117,7 @@ fn follows_alone(matches: &ArgMatches<'_>, input: &Input) -> bool
 fn follow_in(matches: &ArgMatches<'_>, input: Input) -> Option<Job>
     requires named { IsInputOf (rows_of (found_of matches.now)) input }
     ensures job { IfSome result IsInRange }
-    ensures asked { (events : ℕ) (windows : Windows) → AsksFollow events (rows_of (found_of matches.now)) windows → IsSomeAnd result (IsFollow events windows (files_of (rows_of (found_of matches.now)))) }
+    ensures asked { (limit : Limit) (windows : Windows) → AsksFollow limit (rows_of (found_of matches.now)) windows → IsSomeAnd result (IsFollow limit windows (files_of (rows_of (found_of matches.now)))) }
     ensures unheeded { FollowsUnheeding (rows_of (found_of matches.now)) → IsNone result }
 {
     let limit = limit_in(matches)?;
@@ -145,7 +146,7 @@ fn judged_in(matches: &ArgMatches<'_>, input: Input) -> Option<Job>
     requires named { IsInputOf (rows_of (found_of matches.now)) input }
     ensures job { IfSome result IsInRange }
     ensures check { (asked : Checking) → AsksCheck (rows_of (found_of matches.now)) asked → IsSomeAnd result (IsCheck asked (files_of (rows_of (found_of matches.now)))) }
-    ensures follow { (events : ℕ) (windows : Windows) → AsksFollow events (rows_of (found_of matches.now)) windows → IsSomeAnd result (IsFollow events windows (files_of (rows_of (found_of matches.now)))) }
+    ensures follow { (limit : Limit) (windows : Windows) → AsksFollow limit (rows_of (found_of matches.now)) windows → IsSomeAnd result (IsFollow limit windows (files_of (rows_of (found_of matches.now)))) }
     ensures unfollowed { LacksFollow (rows_of (found_of matches.now)) → IsNone result }
     ensures unheeded { FollowsUnheeding (rows_of (found_of matches.now)) → IsNone result }
 {
@@ -188,7 +189,7 @@ fn record_in(matches: &ArgMatches<'_>) -> Option<Job>
 // The drawing that the options of `draw` ask for.
 fn draw_in(matches: &ArgMatches<'_>, file: Option<Vec<u8>>) -> Option<Job>
     ensures job { IfSome result IsInRange }
-    ensures asked { (events : ℕ) (form : Form) (part : Part) (files : List Text) → text_of file ≡ first_name files → AsksDrawWithin events (rows_of (found_of matches.now)) form part → IsSomeAnd result (IsDraw events form part files) }
+    ensures asked { (limit : Limit) (form : Form) (part : Part) (files : List Text) → text_of file ≡ first_name files → AsksDrawWithin limit (rows_of (found_of matches.now)) form part → IsSomeAnd result (IsDraw limit form part files) }
 {
     let form = form_in(matches)?;
     let part = part_in(matches, form)?;
@@ -204,7 +205,7 @@ fn draw_in(matches: &ArgMatches<'_>, file: Option<Vec<u8>>) -> Option<Job>
 // The witness that the options of `shrink` ask for.
 fn shrink_in(matches: &ArgMatches<'_>, file: Option<Vec<u8>>) -> Option<Job>
     ensures job { IfSome result IsInRange }
-    ensures asked { (events : ℕ) (shrunk : Shrunk) (files : List Text) → text_of file ≡ first_name files → AsksShrinkWithin events shrunk (rows_of (found_of matches.now)) → IsSomeAnd result (IsShrink events shrunk files) }
+    ensures asked { (limit : Limit) (shrunk : Shrunk) (files : List Text) → text_of file ≡ first_name files → AsksShrinkWithin limit shrunk (rows_of (found_of matches.now)) → IsSomeAnd result (IsShrink limit shrunk files) }
     ensures both { DrawsMap (rows_of (found_of matches.now)) → IsNone result }
 {
     let shrunk = shrunk_in(matches)?;
@@ -219,7 +220,7 @@ fn shrink_in(matches: &ArgMatches<'_>, file: Option<Vec<u8>>) -> Option<Job>
 // The explanation that the options of `explain` ask for.
 fn explain_in(matches: &ArgMatches<'_>, file: Option<Vec<u8>>) -> Option<Job>
     ensures job { IfSome result IsInRange }
-    ensures asked { (events : ℕ) (drawn whole : Bool) (faults : ℕ) (files : List Text) → text_of file ≡ first_name files → AsksExplanationWithin events drawn whole faults (rows_of (found_of matches.now)) → IsSomeAnd result (IsExplain events drawn whole faults files) }
+    ensures asked { (limit : Limit) (drawn whole : Bool) (faults : ℕ) (files : List Text) → text_of file ≡ first_name files → AsksExplanationWithin limit drawn whole faults (rows_of (found_of matches.now)) → IsSomeAnd result (IsExplain limit drawn whole faults files) }
     ensures several { DrawsFaults (rows_of (found_of matches.now)) → IsNone result }
 {
     let drawn = flag_in(matches, "draw");
@@ -242,7 +243,7 @@ fn explain_in(matches: &ArgMatches<'_>, file: Option<Vec<u8>>) -> Option<Job>
 fn stats_in(matches: &ArgMatches<'_>, files: Vec<Vec<u8>>) -> Option<Job>
     requires named { texts_of files.items ≡ files_of (rows_of (found_of matches.now)) }
     ensures job { IfSome result IsInRange }
-    ensures asked { (events : ℕ) (json : Bool) → AsksStatsWithin events json (rows_of (found_of matches.now)) → IsSomeAnd result (IsStats events json (files_of (rows_of (found_of matches.now)))) }
+    ensures asked { (limit : Limit) (json : Bool) → AsksStatsWithin limit json (rows_of (found_of matches.now)) → IsSomeAnd result (IsStats limit json (files_of (rows_of (found_of matches.now)))) }
     ensures repeated { NamesInputTwice (rows_of (found_of matches.now)) → IsNone result }
 {
     let json = json_in(matches)?;

@@ -5,7 +5,7 @@ ghost use Rattle.clap.specs.declared.builder.command.Command.TheViews.{out-Comma
 ghost use Rattle.snap_words.specs.CommandLine.{draw_app};
 
 use crate::command::command_of;
-use crate::word::{EVENTS, FILE, Takes, Word};
+use crate::word::{EVENTS, FILE, Takes, WRITERS, Word};
 use clap::Command;
 use snap_core::EVENT_CAP;
 use snap_options::MOST_CALLS;
@@ -112,6 +112,7 @@ const WORDS: &[Word<'static>] = &[
         help: "Draw the calls around this one; not with --from",
     },
     EVENTS,
+    WRITERS,
     FILE,
 ];
 

@@ -2,6 +2,7 @@
 ghost use Rattle.std.specs.Prelude.{◌≡◌, ℕ, IfSome, None, Option, Some, false, true};
 ghost use Rattle.clap.specs.Words.{found_of, rows_of};
 ghost use Rattle.snap_options.specs.declared.scheme.Scheme.{Scheme};
+ghost use Rattle.snap_core.specs.declared.limit.Limit.{Limit};
 ghost use Rattle.snap_words.specs.Drawing.{AsksDrawWithin, AsksPlace, AsksScheme};
 ghost use Rattle.snap_words.specs.Parts.{HasRoom, most_calls as spec_most_calls};
 ghost use Rattle.snap_words.specs.declared.drawing.Form.{Form};
@@ -79,7 +80,7 @@ fn place_in(matches: &ArgMatches<'_>) -> Option<Place>
 /// The part that the options of `draw` ask for in a form. Nothing if they ask for two places, or for more calls than have room.
 pub(crate) fn part_in(matches: &ArgMatches<'_>, form: Form) -> Option<Part>
     ensures room { IfSome result (λ part. HasRoom form part.calls) }
-    ensures asked { (events : ℕ) (part : Part) → AsksDrawWithin events (rows_of (found_of matches.now)) form part → result ≡ Some part }
+    ensures asked { (limit : Limit) (part : Part) → AsksDrawWithin limit (rows_of (found_of matches.now)) form part → result ≡ Some part }
 {
     let calls = number_in(matches, "calls");
     let place = place_in(matches)?;
@@ -122,7 +123,7 @@ fn lines_in(scheme: Option<Scheme>) -> Option<Form>
 
 /// The form that the flags of `draw` ask for. Nothing if they ask for two, for two schemes, or for lines with a scheme.
 pub(crate) fn form_in(matches: &ArgMatches<'_>) -> Option<Form>
-    ensures { (events : ℕ) (form : Form) (part : Part) → AsksDrawWithin events (rows_of (found_of matches.now)) form part → result ≡ Some form }
+    ensures { (limit : Limit) (form : Form) (part : Part) → AsksDrawWithin limit (rows_of (found_of matches.now)) form part → result ≡ Some form }
 {
     let svg = flag_in(matches, "svg");
     let text = flag_in(matches, "text");

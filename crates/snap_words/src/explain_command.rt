@@ -5,7 +5,7 @@ ghost use Rattle.clap.specs.declared.builder.command.Command.TheViews.{out-Comma
 ghost use Rattle.snap_words.specs.CommandLine.{explain_app};
 
 use crate::command::command_of;
-use crate::word::{EVENTS, FILE, Takes, Word};
+use crate::word::{EVENTS, FILE, Takes, WRITERS, Word};
 use clap::Command;
 use snap_options::FAULT_LIMIT;
 use std::alloc::{AllocError, Global};
@@ -84,6 +84,7 @@ const WORDS: &[Word<'static>] = &[
         help: "Of how many views with a fault of a kind to tell, from 1 to 1000; not with --draw",
     },
     EVENTS,
+    WRITERS,
     FILE,
 ];
 

@@ -1,6 +1,7 @@
 //! The jobs, and the one that the words of a command line ask for.
 ghost use Rattle.std.specs.Prelude.{◌≡◌, ℕ, Bool, List, Some, codes, IfOk, IsErr, MatchResult, map, string_bytes};
 ghost use Rattle.clap.specs.Words.{Row, Text, kind_of, subcommand_rows_of};
+ghost use Rattle.snap_core.specs.declared.limit.Limit.{Limit};
 ghost use Rattle.snap_words.specs.Drawing.{AsksDrawWithin};
 ghost use Rattle.snap_words.specs.Explaining.{AsksExplanationWithin, DrawsFaults};
 ghost use Rattle.snap_words.specs.Jobs.{AsksCheck, AsksFollow, AsksRecordWithin, AsksStatsWithin, AsksTooManyRounds, Checking, Flags, FollowsUnheeding, IsCheck, IsDraw, IsExplain, IsFollow, IsInRange, IsRecord, IsShrink, IsStats, LacksFollow, NamesInputTwice};
@@ -182,25 +183,25 @@ pub fn job_of(alloc: Global, words: Vec<String>) -> Result<Job, JobFault>
     ensures check { (asked : Checking) (files : List Text)
         → Means (map string_bytes words.items) (codes "check") (λ rows. AsksCheck rows asked) files
         → MatchResult result (IsCheck asked files) (λ fault. fault ≡ JobFault.Memory) }
-    ensures follow { (events : ℕ) (windows : Windows) (files : List Text)
-        → Means (map string_bytes words.items) (codes "check") (λ rows. AsksFollow events rows windows) files
-        → MatchResult result (IsFollow events windows files) (λ fault. fault ≡ JobFault.Memory) }
+    ensures follow { (limit : Limit) (windows : Windows) (files : List Text)
+        → Means (map string_bytes words.items) (codes "check") (λ rows. AsksFollow limit rows windows) files
+        → MatchResult result (IsFollow limit windows files) (λ fault. fault ≡ JobFault.Memory) }
     ensures unfollowed { (files : List Text) → Means (map string_bytes words.items) (codes "check") LacksFollow files → IsErr result }
     ensures unheeded { (files : List Text) → Means (map string_bytes words.items) (codes "check") FollowsUnheeding files → IsErr result }
-    ensures shrink { (events : ℕ) (shrunk : Shrunk) (files : List Text)
-        → Means (map string_bytes words.items) (codes "shrink") (AsksShrinkWithin events shrunk) files
-        → MatchResult result (IsShrink events shrunk files) (λ fault. fault ≡ JobFault.Memory) }
+    ensures shrink { (limit : Limit) (shrunk : Shrunk) (files : List Text)
+        → Means (map string_bytes words.items) (codes "shrink") (AsksShrinkWithin limit shrunk) files
+        → MatchResult result (IsShrink limit shrunk files) (λ fault. fault ≡ JobFault.Memory) }
     ensures drawn_map { (files : List Text) → Means (map string_bytes words.items) (codes "shrink") DrawsMap files → IsErr result }
-    ensures explain { (events : ℕ) (drawn whole : Bool) (faults : ℕ) (files : List Text)
-        → Means (map string_bytes words.items) (codes "explain") (AsksExplanationWithin events drawn whole faults) files
-        → MatchResult result (IsExplain events drawn whole faults files) (λ fault. fault ≡ JobFault.Memory) }
+    ensures explain { (limit : Limit) (drawn whole : Bool) (faults : ℕ) (files : List Text)
+        → Means (map string_bytes words.items) (codes "explain") (AsksExplanationWithin limit drawn whole faults) files
+        → MatchResult result (IsExplain limit drawn whole faults files) (λ fault. fault ≡ JobFault.Memory) }
     ensures drawn_faults { (files : List Text) → Means (map string_bytes words.items) (codes "explain") DrawsFaults files → IsErr result }
-    ensures draw { (events : ℕ) (form : Form) (part : Part) (files : List Text)
-        → Means (map string_bytes words.items) (codes "draw") (λ rows. AsksDrawWithin events rows form part) files
-        → MatchResult result (IsDraw events form part files) (λ fault. fault ≡ JobFault.Memory) }
-    ensures stats { (events : ℕ) (json : Bool) (files : List Text)
-        → Means (map string_bytes words.items) (codes "stats") (AsksStatsWithin events json) files
-        → MatchResult result (IsStats events json files) (λ fault. fault ≡ JobFault.Memory) }
+    ensures draw { (limit : Limit) (form : Form) (part : Part) (files : List Text)
+        → Means (map string_bytes words.items) (codes "draw") (λ rows. AsksDrawWithin limit rows form part) files
+        → MatchResult result (IsDraw limit form part files) (λ fault. fault ≡ JobFault.Memory) }
+    ensures stats { (limit : Limit) (json : Bool) (files : List Text)
+        → Means (map string_bytes words.items) (codes "stats") (AsksStatsWithin limit json) files
+        → MatchResult result (IsStats limit json files) (λ fault. fault ≡ JobFault.Memory) }
     ensures repeated { (files : List Text) → Means (map string_bytes words.items) (codes "stats") NamesInputTwice files → IsErr result }
     ensures recording { (events workers rounds seed : ℕ) (flags : Flags) (files : List Text)
         → Means (map string_bytes words.items) (codes "record") (λ rows. AsksRecordWithin events rows workers rounds seed flags) files

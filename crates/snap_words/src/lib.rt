@@ -21,6 +21,7 @@ mod shrink_command;
 mod shrunk;
 mod stats_command;
 mod word;
+mod writers;
 
 pub use color::Color;
 pub use drawing::{Form, Part, Place};

@@ -1,10 +1,12 @@
 //! What whole lines of words mean. Each law names lines by their words after the program's name, which may be any.
 ghost use Rattle.std.specs.Prelude.{◌∷◌, [], None, Some, codes, false, true};
 ghost use Rattle.clap.specs.Words.{Text};
-ghost use Rattle.snap_core.specs.Limits.{event_limit};
+ghost use Rattle.snap_core.specs.Limits.{IsLimit};
+ghost use Rattle.snap_core.specs.UsualLimits.{greatest_limit, usual_limit};
 ghost use Rattle.snap_words.specs.Drawing.{AsksDraw, AsksDrawWithin, usual_part};
 ghost use Rattle.snap_words.specs.Explaining.{AsksExplanation, AsksExplanationWithin, DrawsFaults};
 ghost use Rattle.snap_words.specs.Jobs.{AsksCheck, AsksFollow, AsksRecord, AsksRecordWithin, AsksStats, AsksStatsWithin, AsksTooManyRounds, FollowsUnheeding, LacksFollow, NamesInputTwice, no_flags, no_options, plain_check};
+ghost use Rattle.snap_words.specs.Limits.{limit_of, usual_many};
 ghost use Rattle.snap_words.specs.Lines.{Means};
 ghost use Rattle.snap_words.specs.Shrinking.{AsksShrink, AsksShrinkWithin, DrawsMap};
 ghost use Rattle.snap_words.specs.declared.color.Color.TheVariants.{Never};
@@ -25,13 +27,14 @@ pub fn check_lines()
     ensures json { (name : Text) → Means (name ∷ codes "check" ∷ codes "--format" ∷ codes "json" ∷ []) (codes "check") (λ rows. AsksCheck rows (record plain_check { options = record no_options { format = Json } })) [] }
     ensures junit { (name : Text) → Means (name ∷ codes "check" ∷ codes "--format" ∷ codes "junit" ∷ []) (codes "check") (λ rows. AsksCheck rows (record plain_check { options = record no_options { format = Junit } })) [] }
     ensures summary { (name : Text) → Means (name ∷ codes "check" ∷ codes "--summary" ∷ []) (codes "check") (λ rows. AsksCheck rows (record plain_check { options = record no_options { summary = true } })) [] }
-    ensures follow { (name : Text) → Means (name ∷ codes "check" ∷ codes "--follow" ∷ codes "--window" ∷ codes "500" ∷ codes "--idle" ∷ codes "5" ∷ []) (codes "check") (λ rows. AsksFollow event_limit rows (record { least = 500; idle = 5; late = 1000; views = 0 })) [] }
-    ensures few { (name : Text) → Means (name ∷ codes "check" ∷ codes "--follow" ∷ codes "--events" ∷ codes "500" ∷ []) (codes "check") (λ rows. AsksFollow 500 rows (record { least = 250; idle = 0; late = 1000; views = 0 })) [] }
-    ensures late { (name : Text) → Means (name ∷ codes "check" ∷ codes "--follow" ∷ codes "--late" ∷ codes "20" ∷ []) (codes "check") (λ rows. AsksFollow event_limit rows (record { least = 1000; idle = 0; late = 20; views = 0 })) [] }
+    ensures follow { (name : Text) → Means (name ∷ codes "check" ∷ codes "--follow" ∷ codes "--window" ∷ codes "500" ∷ codes "--idle" ∷ codes "5" ∷ []) (codes "check") (λ rows. AsksFollow usual_limit rows (record { least = 500; idle = 5; late = 1000; views = 0 })) [] }
+    ensures few { (name : Text) (fits : IsLimit 500) → Means (name ∷ codes "check" ∷ codes "--follow" ∷ codes "--events" ∷ codes "500" ∷ []) (codes "check") (λ rows. AsksFollow (limit_of 500 fits) rows (record { least = 250; idle = 0; late = 1000; views = 0 })) [] }
+    ensures late { (name : Text) → Means (name ∷ codes "check" ∷ codes "--follow" ∷ codes "--late" ∷ codes "20" ∷ []) (codes "check") (λ rows. AsksFollow usual_limit rows (record { least = 1000; idle = 0; late = 20; views = 0 })) [] }
     ensures late_unfollowed { (name : Text) → Means (name ∷ codes "check" ∷ codes "--late" ∷ codes "20" ∷ []) (codes "check") LacksFollow [] }
     ensures unfollowed { (name : Text) → Means (name ∷ codes "check" ∷ codes "--window" ∷ codes "500" ∷ []) (codes "check") LacksFollow [] }
     ensures color { (name : Text) → Means (name ∷ codes "check" ∷ codes "--color" ∷ codes "never" ∷ []) (codes "check") (λ rows. AsksCheck rows (record plain_check { options = record no_options { color = Never } })) [] }
-    ensures events { (name : Text) → Means (name ∷ codes "check" ∷ codes "--events" ∷ codes "1048576" ∷ []) (codes "check") (λ rows. AsksCheck rows (record plain_check { events = 1048576 })) [] }
+    ensures events { (name : Text) → Means (name ∷ codes "check" ∷ codes "--events" ∷ codes "1048576" ∷ []) (codes "check") (λ rows. AsksCheck rows (record plain_check { limit = greatest_limit })) [] }
+    ensures writers { (name : Text) → Means (name ∷ codes "check" ∷ codes "--writers" ∷ codes "many" ∷ []) (codes "check") (λ rows. AsksCheck rows (record plain_check { limit = usual_many })) [] }
     ensures short { (name : Text) → Means (name ∷ codes "check" ∷ codes "-q" ∷ []) (codes "check") (λ rows. AsksCheck rows (record plain_check { options = record no_options { quiet = true } })) [] }
     ensures unheeded { (name : Text) → Means (name ∷ codes "check" ∷ codes "--follow" ∷ codes "--workers" ∷ codes "4" ∷ []) (codes "check") FollowsUnheeding [] }
     ensures files { (name : Text) → Means (name ∷ codes "check" ∷ codes "a.csv" ∷ codes "-" ∷ []) (codes "check") (λ rows. AsksCheck rows plain_check) (codes "a.csv" ∷ codes "-" ∷ []) }
@@ -59,18 +62,22 @@ pub fn picture_lines()
     ensures draw_svg { (name : Text) → Means (name ∷ codes "draw" ∷ codes "--svg" ∷ []) (codes "draw") (λ rows. AsksDraw rows (Svg None)) [] }
     ensures draw_dark { (name : Text) → Means (name ∷ codes "draw" ∷ codes "--svg" ∷ codes "--dark" ∷ []) (codes "draw") (λ rows. AsksDraw rows (Svg (Some Dark))) [] }
     ensures draw_text { (name : Text) → Means (name ∷ codes "draw" ∷ codes "--text" ∷ []) (codes "draw") (λ rows. AsksDraw rows Lines) [] }
-    ensures shrink_events { (name : Text) → Means (name ∷ codes "shrink" ∷ codes "--events" ∷ codes "1048576" ∷ []) (codes "shrink") (AsksShrinkWithin 1048576 Witness) [] }
-    ensures explain_events { (name : Text) → Means (name ∷ codes "explain" ∷ codes "--events" ∷ codes "1048576" ∷ []) (codes "explain") (AsksExplanationWithin 1048576 false false 1) [] }
-    ensures draw_events { (name : Text) → Means (name ∷ codes "draw" ∷ codes "--events" ∷ codes "1048576" ∷ []) (codes "draw") (λ rows. AsksDrawWithin 1048576 rows (Page None) usual_part) [] }
-    ensures draw_from { (name : Text) → Means (name ∷ codes "draw" ∷ codes "--calls" ∷ codes "500" ∷ codes "--from" ∷ codes "5" ∷ []) (codes "draw") (λ rows. AsksDrawWithin event_limit rows (Page None) (record { calls = Some 500; place = From 5 })) [] }
-    ensures draw_around { (name : Text) → Means (name ∷ codes "draw" ∷ codes "--around" ∷ codes "5" ∷ []) (codes "draw") (λ rows. AsksDrawWithin event_limit rows (Page None) (record usual_part { place = Around 5 })) [] }
+    ensures shrink_events { (name : Text) → Means (name ∷ codes "shrink" ∷ codes "--events" ∷ codes "1048576" ∷ []) (codes "shrink") (AsksShrinkWithin greatest_limit Witness) [] }
+    ensures explain_events { (name : Text) → Means (name ∷ codes "explain" ∷ codes "--events" ∷ codes "1048576" ∷ []) (codes "explain") (AsksExplanationWithin greatest_limit false false 1) [] }
+    ensures draw_events { (name : Text) → Means (name ∷ codes "draw" ∷ codes "--events" ∷ codes "1048576" ∷ []) (codes "draw") (λ rows. AsksDrawWithin greatest_limit rows (Page None) usual_part) [] }
+    ensures shrink_writers { (name : Text) → Means (name ∷ codes "shrink" ∷ codes "--writers" ∷ codes "many" ∷ []) (codes "shrink") (AsksShrinkWithin usual_many Witness) [] }
+    ensures explain_writers { (name : Text) → Means (name ∷ codes "explain" ∷ codes "--writers" ∷ codes "many" ∷ []) (codes "explain") (AsksExplanationWithin usual_many false false 1) [] }
+    ensures draw_writers { (name : Text) → Means (name ∷ codes "draw" ∷ codes "--writers" ∷ codes "many" ∷ []) (codes "draw") (λ rows. AsksDrawWithin usual_many rows (Page None) usual_part) [] }
+    ensures draw_from { (name : Text) → Means (name ∷ codes "draw" ∷ codes "--calls" ∷ codes "500" ∷ codes "--from" ∷ codes "5" ∷ []) (codes "draw") (λ rows. AsksDrawWithin usual_limit rows (Page None) (record { calls = Some 500; place = From 5 })) [] }
+    ensures draw_around { (name : Text) → Means (name ∷ codes "draw" ∷ codes "--around" ∷ codes "5" ∷ []) (codes "draw") (λ rows. AsksDrawWithin usual_limit rows (Page None) (record usual_part { place = Around 5 })) [] }
 {}
 
 /// What lines of `stats` ask for: lines, if nothing else is said. A line that names standard input twice asks for no job.
 pub fn stats_lines()
     ensures alone { (name : Text) → Means (name ∷ codes "stats" ∷ []) (codes "stats") (AsksStats false) [] }
     ensures json { (name : Text) → Means (name ∷ codes "stats" ∷ codes "--format" ∷ codes "json" ∷ []) (codes "stats") (AsksStats true) [] }
-    ensures events { (name : Text) → Means (name ∷ codes "stats" ∷ codes "--events" ∷ codes "1048576" ∷ []) (codes "stats") (AsksStatsWithin 1048576 false) [] }
+    ensures events { (name : Text) → Means (name ∷ codes "stats" ∷ codes "--events" ∷ codes "1048576" ∷ []) (codes "stats") (AsksStatsWithin greatest_limit false) [] }
+    ensures writers { (name : Text) → Means (name ∷ codes "stats" ∷ codes "--writers" ∷ codes "many" ∷ []) (codes "stats") (AsksStatsWithin usual_many false) [] }
     ensures files { (name : Text) → Means (name ∷ codes "stats" ∷ codes "a.csv" ∷ codes "-" ∷ []) (codes "stats") (AsksStats false) (codes "a.csv" ∷ codes "-" ∷ []) }
     ensures repeated { (name : Text) → Means (name ∷ codes "stats" ∷ codes "-" ∷ codes "-" ∷ []) (codes "stats") NamesInputTwice (codes "-" ∷ codes "-" ∷ []) }
 {}

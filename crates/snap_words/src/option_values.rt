@@ -2,8 +2,11 @@
 ghost use Rattle.std.specs.Prelude.{◌≡◌, ◌<◌, ◌^◌, ℕ, Bool, Some, None, false, codes, decimal, is_some, IfSome, IsSomeAnd};
 ghost use Rattle.clap.specs.Words.{first_of, found_of, one_of, rows_of};
 ghost use Rattle.snap_core.specs.Limits.{IsLimit};
-ghost use Rattle.snap_words.specs.Jobs.{AsksLimit, SaysOr, flag_text};
+ghost use Rattle.snap_core.specs.declared.limit.Limit.{Limit};
+ghost use Rattle.snap_words.specs.Jobs.{SaysOr, flag_text};
+ghost use Rattle.snap_words.specs.Limits.{AsksEvents, AsksLimit};
 
+use crate::writers::writers_in;
 use clap::ArgMatches;
 use snap_core::Limit;
 
@@ -37,19 +40,20 @@ pub(crate) fn flag_in(matches: &ArgMatches<'_>, id: &str) -> bool
     matches.get_flag(id)
 }
 
-/// The limit of events that is asked for.
-pub(crate) fn limit_in(matches: &ArgMatches<'_>) -> Option<Limit>
-    ensures limit { IfSome result (λ limit. IsLimit limit.events) }
-    ensures asked { (events : ℕ) → AsksLimit events (rows_of (found_of matches.now)) → IsSomeAnd result (λ limit. limit.events ≡ events) }
-{
-    Limit::new(number_in(matches, "events")?)
-}
-
-/// The limit of events that is asked for, as a number.
+/// The number of events that is asked for as the limit.
 pub(crate) fn events_in(matches: &ArgMatches<'_>) -> Option<u32>
     ensures limit { IfSome result IsLimit }
-    ensures asked { (events : ℕ) → AsksLimit events (rows_of (found_of matches.now)) → result ≡ Some events }
+    ensures asked { (events : ℕ) → AsksEvents events (rows_of (found_of matches.now)) → result ≡ Some events }
 {
-    let limit = limit_in(matches)?;
+    let events = number_in(matches, "events")?;
+    let limit = Limit::new(events)?;
     Some(limit.events() as u32)
+}
+
+/// The limit that is asked for: of events, and of the writers of a component.
+pub(crate) fn limit_in(matches: &ArgMatches<'_>) -> Option<Limit>
+    ensures { (limit : Limit) → AsksLimit limit (rows_of (found_of matches.now)) → IsSomeAnd result (λ given. given ≡ limit) }
+{
+    let limit = Limit::new(number_in(matches, "events")?)?;
+    Some(limit.with_writers(writers_in(matches)?))
 }

@@ -8,6 +8,7 @@ use crate::drawing::{form_in, has_room, most_calls};
 use crate::format::{Format, format_in, json_in};
 use crate::option_values::{flag_in, is_given, number_in};
 use crate::ranges::{ROUND_EVENTS, are_rounds, are_views};
+use crate::writers::writers_in;
 use clap::ArgMatches;
 use std::alloc::{AllocError, Global};
 
@@ -24,6 +25,7 @@ pub(crate) fn names_unheeded(matches: &ArgMatches<'_>) -> bool
 {
     is_given(matches, "pieces")
         || is_given(matches, "workers")
+        || is_given(matches, "writers")
         || is_given(matches, "color")
         || is_given(matches, "list")
         || is_given(matches, "folder")
@@ -35,6 +37,8 @@ fn unheeded_refusal(matches: &ArgMatches<'_>) -> &'static str {
         "error: the argument '--follow' cannot be used with '--pieces <P>'\n"
     } else if is_given(matches, "workers") {
         "error: the argument '--follow' cannot be used with '--workers <W>'\n"
+    } else if is_given(matches, "writers") {
+        "error: the argument '--follow' cannot be used with '--writers <WRITERS>'\n"
     } else if is_given(matches, "color") {
         "error: the argument '--follow' cannot be used with '--color <WHEN>'\n"
     } else if is_given(matches, "list") {
@@ -69,6 +73,9 @@ const INPUT_ONCE: &str = "error: - is standard input, and can be named once\n";
 
 const UNKNOWN_FORMAT: &str =
     "error: invalid value for '--format <FORMAT>'\n  [possible values: plain, json, junit]\n\nFor more information, try '--help'.\n";
+
+const UNKNOWN_WRITERS: &str =
+    "error: invalid value for '--writers <WRITERS>'\n  [possible values: one, many]\n\nFor more information, try '--help'.\n";
 
 const UNKNOWN_STATS_FORMAT: &str =
     "error: invalid value for '--format <FORMAT>'\n  [possible values: plain, json]\n\nFor more information, try '--help'.\n";
@@ -137,33 +144,41 @@ fn draw_refusal(matches: &ArgMatches<'_>) -> &'static str {
     }
 }
 
-// Why words that the parser takes ask for no job. The parser tests each number by itself. It does not test the word of a format or
-// of colours, nor whether two options go together.
-fn refusal_of(matches: &ArgMatches<'_>) -> &'static str {
-    if let Some(inner) = matches.subcommand_matches("draw") {
-        return draw_refusal(inner);
-    }
-    if let Some(inner) = matches.subcommand_matches("stats") {
-        return stats_refusal(inner);
-    }
-    if matches.subcommand_matches("shrink").is_some() {
-        return "error: the argument '--draw' cannot be used with '--map'\n";
-    }
-    if matches.subcommand_matches("explain").is_some() {
-        return "error: the argument '--draw' cannot be used with '--faults <N>'\n";
-    }
-    let Some(inner) = matches.subcommand_matches("check") else {
-        return "error: the argument '--judge' cannot be used with '--stamped'\n";
-    };
-    let Some(format) = format_in(inner) else {
+// Why a check asks for no job.
+fn judged_refusal(matches: &ArgMatches<'_>) -> &'static str {
+    let Some(format) = format_in(matches) else {
         return UNKNOWN_FORMAT;
     };
-    if color_in(inner).is_none() {
+    if color_in(matches).is_none() {
         "error: invalid value for '--color <WHEN>'\n  [possible values: auto, always, never]\n\nFor more information, try '--help'.\n"
-    } else if flag_in(inner, "follow") {
-        follow_refusal(inner, format)
+    } else if flag_in(matches, "follow") {
+        follow_refusal(matches, format)
     } else {
-        check_refusal(inner, format)
+        check_refusal(matches, format)
+    }
+}
+
+// Why a command asks for no job. The parser tests each number by itself. It does not test the word of a format, of colours or of
+// writers, nor whether two options go together.
+fn command_refusal(name: &str, matches: &ArgMatches<'_>) -> &'static str {
+    if writers_in(matches).is_none() {
+        return UNKNOWN_WRITERS;
+    }
+    match name {
+        "check" => judged_refusal(matches),
+        "shrink" => "error: the argument '--draw' cannot be used with '--map'\n",
+        "explain" => "error: the argument '--draw' cannot be used with '--faults <N>'\n",
+        "draw" => draw_refusal(matches),
+        "stats" => stats_refusal(matches),
+        _ => "error: the argument '--judge' cannot be used with '--stamped'\n",
+    }
+}
+
+// Why words that the parser takes ask for no job.
+fn refusal_of(matches: &ArgMatches<'_>) -> &'static str {
+    match matches.subcommand() {
+        Some((name, inner)) => command_refusal(name, inner),
+        None => "error: 'snapjudge' requires a subcommand but one was not provided\n",
     }
 }
 

@@ -5,7 +5,7 @@ ghost use Rattle.clap.specs.declared.builder.command.Command.TheViews.{out-Comma
 ghost use Rattle.snap_words.specs.CommandLine.{shrink_app};
 
 use crate::command::command_of;
-use crate::word::{EVENTS, FILE, Takes, Word};
+use crate::word::{EVENTS, FILE, Takes, WRITERS, Word};
 use clap::Command;
 use std::alloc::{AllocError, Global};
 
@@ -78,6 +78,7 @@ const WORDS: &[Word<'static>] = &[
         help: "Write which calls of the history the witness keeps in its place",
     },
     EVENTS,
+    WRITERS,
     FILE,
 ];
 

@@ -1,6 +1,7 @@
 //! What `shrink` writes, and the words that ask for it.
-ghost use Rattle.std.specs.Prelude.{◌≡◌, ℕ, Some, IsNone};
+ghost use Rattle.std.specs.Prelude.{◌≡◌, Some, IsNone};
 ghost use Rattle.clap.specs.Words.{found_of, rows_of};
+ghost use Rattle.snap_core.specs.declared.limit.Limit.{Limit};
 ghost use Rattle.snap_words.specs.Shrinking.{AsksShrinkWithin, DrawsMap};
 ghost use Rattle.snap_words.specs.declared.shrunk.Shrunk.{Shrunk};
 
@@ -20,7 +21,7 @@ pub enum Shrunk {
 
 /// What the flags of `shrink` ask for, or nothing if they ask for two.
 pub(crate) fn shrunk_in(matches: &ArgMatches<'_>) -> Option<Shrunk>
-    ensures asked { (events : ℕ) (shrunk : Shrunk) → AsksShrinkWithin events shrunk (rows_of (found_of matches.now)) → result ≡ Some shrunk }
+    ensures asked { (limit : Limit) (shrunk : Shrunk) → AsksShrinkWithin limit shrunk (rows_of (found_of matches.now)) → result ≡ Some shrunk }
     ensures both { DrawsMap (rows_of (found_of matches.now)) → IsNone result }
 {
     let drawn = flag_in(matches, "draw");

@@ -5,7 +5,7 @@ ghost use Rattle.clap.specs.declared.builder.command.Command.TheViews.{out-Comma
 ghost use Rattle.snap_words.specs.CommandLine.{stats_app};
 
 use crate::command::command_of;
-use crate::word::{EVENTS, FILES, FORMAT, Word};
+use crate::word::{EVENTS, FILES, FORMAT, WRITERS, Word};
 use clap::Command;
 use std::alloc::{AllocError, Global};
 
@@ -54,7 +54,7 @@ Exit status:
     4  reading, writing or memory failed, or a file can't be opened
     5  the words of the command line were not taken";
 
-const WORDS: &[Word<'static>] = &[FORMAT, EVENTS, FILES];
+const WORDS: &[Word<'static>] = &[FORMAT, EVENTS, WRITERS, FILES];
 
 pub(crate) fn stats_command<'a>(alloc: Global) -> Result<Command<'a>, AllocError>
     ensures { IfOk result (λ command. (app_of command ≡ stats_app) × ((fields_of command).has_globals ≡ false)) }

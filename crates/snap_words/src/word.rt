@@ -71,6 +71,15 @@ pub(crate) const EVENTS: Word<'static> = Word {
     help: "How many events a history may have, from 1 to 1048576, of 1024 bytes of text each",
 };
 
+/// How many writers a component may have, of a command that reads a history.
+pub(crate) const WRITERS: Word<'static> = Word {
+    id: "writers",
+    long: Some("writers"),
+    short: None,
+    takes: Takes::Text { name: "WRITERS" },
+    help: "How many processes may write a component: one or many. Without it one; of many the updates may overlap, and end in the order of their numbers",
+};
+
 /// The format of a command that writes lines or objects.
 pub(crate) const FORMAT: Word<'static> = Word {
     id: "format",

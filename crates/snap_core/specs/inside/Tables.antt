@@ -1,11 +1,17 @@
 -- What a history keeps of its events, by process and by component.
-use Rattle.std.specs.Prelude.{ℕ, Bool, true, false, not, ◌==◌, ◌<◌, ◌≡◌, ⊤, List, Option, Some, None, count_by, slice_index_or, vec_len, if◌then◌else◌}
+use Rattle.std.specs.Prelude.{ℕ, Bool, true, false, not, ◌==◌, ◌<◌, ◌≤◌, ◌≡◌, ⊤, List, Option, Some, None, count_by, is_some, nat_le, slice_index_or, vec_len, if◌then◌else◌}
 use Rattle.std.specs.List.{list_any}
 use Rattle.snap_core.specs.declared.event.Begun.{Begun}
 use Rattle.snap_core.specs.declared.event.Begun.TheVariants as begun
 use Rattle.snap_core.specs.declared.tables.Tables.{Tables}
 use Rattle.snap_core.specs.declared.tables.Writer.{Writer}
-use Rattle.snap_core.specs.Events.{Event, BeginUpdate, BeginView, EndUpdate, EndView, begins_update_of, IsBoundedHistory}
+use Rattle.snap_core.specs.declared.entry.Entry.{Entry}
+use Rattle.snap_core.specs.declared.writers.Writers.{Writers}
+use Rattle.snap_core.specs.declared.writers.Writers.TheVariants.{One}
+use Rattle.snap_core.specs.Calls.{Call, calls_of}
+use Rattle.snap_core.specs.Regular.{IsUpdateOf}
+use Rattle.snap_core.specs.Events.{Event, BeginUpdate, BeginView, EndUpdate, EndView, begins_update_of}
+use Rattle.snap_core.specs.Bounded.{IsBoundedBy}
 use Rattle.snap_core.specs.Refusals.{last_event, is_by_other}
 
 -- what an event begins
@@ -29,6 +35,11 @@ abbrev pub count_in : Option Writer → ℕ
 count_in None = 0
 count_in (Some w) = w.count
 
+-- the highest number of a component's updates that have ended
+abbrev pub ended_in : Option Writer → ℕ
+ended_in None = 0
+ended_in (Some w) = w.ended
+
 -- an event ends what was begun
 abbrev pub ends_begun : Option Begun → Event → Bool
 ends_begun (Some (begun.Update d)) (EndUpdate p) = true
@@ -41,16 +52,19 @@ is_written_by_other p None = false
 is_written_by_other p (Some w) = not (w.process == p)
 
 -- what the tables say of a list of events
-pub record Recalls (t : Tables) (es : List Event) : Type 0 where
+pub record Recalls (writers : Writers) (t : Tables) (es : List Event) : Type 0 where
   -- a process's open call is what its last event begins
   pub calls : (p : ℕ) → call_in t p ≡ begun_in (last_event p None es)
   pub counts : (k : ℕ) → count_in (writer_in t k) ≡ count_by (begins_update_of k) es
-  pub writers : (k p : ℕ) → is_written_by_other p (writer_in t k) ≡ list_any (is_by_other p k) es
+  pub writer : writers ≡ One → (k p : ℕ) → is_written_by_other p (writer_in t k) ≡ list_any (is_by_other p k) es
+  -- the updates of a component that have ended are those up to this number
+  pub ended : (c : Call) (e : Entry) → IsUpdateOf (calls_of es) c e → is_some c.ended ≡ nat_le e.number (ended_in (writer_in t e.component))
+  pub few : (k : ℕ) → ended_in (writer_in t k) ≤ count_in (writer_in t k)
 
--- events that are a history, and tables that recall them
-pub record IsRecalled (t : Tables) (es : List Event) : Type 0 where
-  pub kept : IsBoundedHistory es
-  pub recalls : Recalls t es
+-- events that are a history with such writers, and tables that recall them
+pub record IsRecalled (writers : Writers) (t : Tables) (es : List Event) : Type 0 where
+  pub kept : IsBoundedBy writers es
+  pub recalls : Recalls writers t es
 
 abbrev pub WriterHasRoom : Tables → Option Begun → Type 0
 WriterHasRoom t (Some (begun.Update e)) = e.component < vec_len t.writers
@@ -61,8 +75,22 @@ WriterHasRoom t None = ⊤
 abbrev pub HasRoom : Tables → ℕ → Option Begun → Type 0
 HasRoom t p b = (p < vec_len t.calls) × WriterHasRoom t b
 
--- the writer of component k after a process has begun something
-abbrev pub writer_by : ℕ → Option Begun → ℕ → Option Writer → Option Writer
-writer_by p (Some (begun.Update e)) k old = if e.component == k then Some (record { process = p; count = e.number }) else old
-writer_by p (Some begun.View) k old = old
-writer_by p None k old = old
+-- a component after a process has begun an update of it
+abbrev pub writer_begun : ℕ → Entry → ℕ → Option Writer → Option Writer
+writer_begun p e k old = if e.component == k then Some (record { process = p; count = e.number; ended = ended_in old }) else old
+
+abbrev pub with_ended : ℕ → Option Writer → Option Writer
+with_ended n None = None
+with_ended n (Some w) = Some (record { process = w.process; count = w.count; ended = n })
+
+-- a component after an update of it has ended
+abbrev pub writer_ended : Entry → ℕ → Option Writer → Option Writer
+writer_ended e k old = if e.component == k then with_ended e.number old else old
+
+-- component k after an event of a process: its open call before, and what it begins, if anything
+abbrev pub writer_after : ℕ → Option Begun → Option Begun → ℕ → Option Writer → Option Writer
+writer_after p was (Some (begun.Update e)) k old = writer_begun p e k old
+writer_after p was (Some begun.View) k old = old
+writer_after p (Some (begun.Update e)) None k old = writer_ended e k old
+writer_after p (Some begun.View) None k old = old
+writer_after p None None k old = old

@@ -1,5 +1,6 @@
 -- The records of a text: those that a reader of `csv` has left, and those of a history.
 use Rattle.std.specs.Prelude.{◌≡◌, ◌<◌, ℕ, true, false, List, length, Some, Result, Ok, Err}
+use Rattle.snap_core.specs.declared.limit.Limit.{Limit}
 use Rattle.std.specs.Global.{Vec}
 use Rattle.csv.specs.Machine.{ends_at_end}
 use Rattle.csv.specs.Reading.{records_from, default_config, source_of, Ready}
@@ -26,6 +27,6 @@ pub record Stands (r : Reader (Bor (List ℕ))) (rows : List Fields) : Type 0 wh
   pub gives : records_from default_config fuel r.state left ≡ rows
 
 -- what an answer says of records, with the number of each event's record
-abbrev pub AnswersListed : ℕ → List Fields → Result (LimitedEvents × Vec ℕ) ReadRefusal → Type 0
+abbrev pub AnswersListed : Limit → List Fields → Result (LimitedEvents × Vec ℕ) ReadRefusal → Type 0
 AnswersListed limit rows (Ok x) = AnswersRows limit rows (Ok x.0) × RowsNumbered rows x.1.items
 AnswersListed limit rows (Err e) = RefusesRows limit rows e

@@ -5,6 +5,7 @@ use super::points::{Point, spread};
 use super::scale::{WIDE, scaled, x_of, y_of};
 use crate::picture::Picture;
 use crate::words::short_label;
+use snap_core::Ownership;
 use snap_report::put_number;
 use std::alloc::{AllocError, Global};
 
@@ -19,10 +20,10 @@ fn put_back(out: &mut Vec<u8>, x: u64, y: u64, characters: usize) -> Result<(), 
 }
 
 // Adds the ground behind the label of each call, above its bar.
-fn put_label_backs(
+fn put_label_backs<O: Ownership>(
     alloc: Global,
     out: &mut Vec<u8>,
-    picture: &Picture<'_, '_>,
+    picture: &Picture<'_, '_, O>,
     width: usize,
 ) -> Result<(), AllocError> {
     for bar in &picture.shapes.bars {
@@ -47,10 +48,10 @@ fn put_place_backs(alloc: Global, out: &mut Vec<u8>, points: &[Point]) -> Result
 
 /// Adds the ground behind the labels of the calls and behind the places of these points, for a picture of this width. It covers no
 /// bar.
-pub(crate) fn put_backs(
+pub(crate) fn put_backs<O: Ownership>(
     alloc: Global,
     out: &mut Vec<u8>,
-    picture: &Picture<'_, '_>,
+    picture: &Picture<'_, '_, O>,
     points: &[Point],
     width: usize,
 ) -> Result<(), AllocError> {

@@ -7,6 +7,7 @@ use crate::marks::{Mark, is_marked};
 use crate::picture::Picture;
 use crate::shapes::{Bar, Shapes};
 use crate::words::{put_cut, put_title, record_at, short_label};
+use snap_core::Ownership;
 use snap_index::CallOp;
 use snap_report::{put_call, put_number};
 use std::alloc::{AllocError, Global};
@@ -55,7 +56,11 @@ fn put_numbers(out: &mut Vec<u8>, records: &[u32], bar: &Bar) -> Result<(), Allo
 }
 
 // Adds what names a call: its classes, its number and its records.
-fn put_names(out: &mut Vec<u8>, picture: &Picture<'_, '_>, bar: &Bar) -> Result<(), AllocError> {
+fn put_names<O: Ownership>(
+    out: &mut Vec<u8>,
+    picture: &Picture<'_, '_, O>,
+    bar: &Bar,
+) -> Result<(), AllocError> {
     put_classes(out, &picture.shapes.marks, bar)?;
     put_numbers(out, picture.numbering.records, bar)?;
     put_title(out, picture, bar)?;
@@ -131,10 +136,10 @@ fn put_words(
 }
 
 // Adds the short name of a call above its bar.
-fn put_label(
+fn put_label<O: Ownership>(
     alloc: Global,
     out: &mut Vec<u8>,
-    picture: &Picture<'_, '_>,
+    picture: &Picture<'_, '_, O>,
     bar: &Bar,
     room: usize,
 ) -> Result<(), AllocError> {
@@ -168,10 +173,10 @@ fn put_tag(
 }
 
 // Adds a call: its names, its bar, its label, and its kinds of fault.
-fn put_drawn(
+fn put_drawn<O: Ownership>(
     alloc: Global,
     out: &mut Vec<u8>,
-    picture: &Picture<'_, '_>,
+    picture: &Picture<'_, '_, O>,
     bar: &Bar,
     room: usize,
 ) -> Result<(), AllocError> {
@@ -182,10 +187,10 @@ fn put_drawn(
     out.extend_from_slice(b"</g>\n")
 }
 
-pub(crate) fn put_calls(
+pub(crate) fn put_calls<O: Ownership>(
     alloc: Global,
     out: &mut Vec<u8>,
-    picture: &Picture<'_, '_>,
+    picture: &Picture<'_, '_, O>,
     width: usize,
 ) -> Result<(), AllocError> {
     for bar in &picture.shapes.bars {

@@ -2,6 +2,7 @@
 use super::parts::{put_escaped, put_parts};
 use crate::picture::{Picture, front_of, is_sentence};
 use crate::shapes::{Bar, Shapes};
+use snap_core::Ownership;
 use snap_index::{CallOp, Index};
 use snap_report::{put_call, put_entry, put_number};
 use std::alloc::{AllocError, Global};
@@ -57,7 +58,10 @@ fn put_calls(out: &mut Vec<u8>, parts: &[Shapes], all: u64) -> Result<(), AllocE
 }
 
 /// Adds in words what the pieces of a page hold, and what they leave out.
-pub(crate) fn put_extent(out: &mut Vec<u8>, picture: &Picture<'_, '_>) -> Result<(), AllocError> {
+pub(crate) fn put_extent<O: Ownership>(
+    out: &mut Vec<u8>,
+    picture: &Picture<'_, '_, O>,
+) -> Result<(), AllocError> {
     if picture.parts.is_empty() {
         return Ok(());
     }
@@ -75,7 +79,11 @@ pub(crate) fn put_extent(out: &mut Vec<u8>, picture: &Picture<'_, '_>) -> Result
 }
 
 // Adds a step of the printed order: the number of its call, and what that writes if it is an update.
-fn put_step(out: &mut Vec<u8>, index: &Index<'_>, number: u32) -> Result<(), AllocError> {
+fn put_step<O: Ownership>(
+    out: &mut Vec<u8>,
+    index: &Index<'_, O>,
+    number: u32,
+) -> Result<(), AllocError> {
     put_call(out, b" ", number)?;
     match index.call(number) {
         Some(call) => match call.op {
@@ -99,7 +107,7 @@ fn places_of(bars: &[Bar], places: Option<(usize, usize)>) -> Option<(usize, usi
 }
 
 // The first and the last place of all calls that a page holds.
-fn places_held(picture: &Picture<'_, '_>) -> Option<(usize, usize)> {
+fn places_held<O: Ownership>(picture: &Picture<'_, '_, O>) -> Option<(usize, usize)> {
     let mut found = places_of(&picture.shapes.bars, None);
     for part in picture.parts {
         found = places_of(&part.bars, found);
@@ -108,7 +116,7 @@ fn places_held(picture: &Picture<'_, '_>) -> Option<(usize, usize)> {
 }
 
 // The component that a call writes.
-fn written_by(index: &Index<'_>, number: u32) -> Option<usize> {
+fn written_by<O: Ownership>(index: &Index<'_, O>, number: u32) -> Option<usize> {
     match index.call(number)?.op {
         CallOp::Update(entry) => Some(usize::from(entry.component)),
         CallOp::View => None,
@@ -116,10 +124,10 @@ fn written_by(index: &Index<'_>, number: u32) -> Option<usize> {
 }
 
 // Adds the latest update of each component in some steps.
-fn put_board(
+fn put_board<O: Ownership>(
     alloc: Global,
     out: &mut Vec<u8>,
-    index: &Index<'_>,
+    index: &Index<'_, O>,
     before: &[u32],
 ) -> Result<(), AllocError> {
     let mut latest: Vec<Option<u32>> = Vec::new(alloc);
@@ -140,10 +148,10 @@ fn put_board(
 }
 
 /// Adds the steps of the printed order up to the last call that a page holds. Before the first one of these it adds the board.
-pub(crate) fn put_steps(
+pub(crate) fn put_steps<O: Ownership>(
     alloc: Global,
     out: &mut Vec<u8>,
-    picture: &Picture<'_, '_>,
+    picture: &Picture<'_, '_, O>,
 ) -> Result<(), AllocError> {
     let Some((first, last)) = places_held(picture) else {
         return Ok(());

@@ -5,6 +5,7 @@ use crate::marks::Mark;
 use crate::shapes::{Bar, Shapes};
 use crate::words::record_at;
 use snap_conditions::Kind;
+use snap_core::Ownership;
 use snap_index::Index;
 use std::alloc::AllocError;
 
@@ -21,7 +22,7 @@ fn ends_of(bars: &[Bar]) -> (u32, u32) {
 }
 
 // The place of the first begin of the calls of the first fault of a kind.
-fn first_of(index: &Index<'_>, marks: &[Mark], kind: Kind) -> Option<u32> {
+fn first_of<O: Ownership>(index: &Index<'_, O>, marks: &[Mark], kind: Kind) -> Option<u32> {
     let mut first = None;
     for mark in marks {
         if mark.kind == kind {
@@ -98,9 +99,9 @@ fn put_tick(out: &mut Vec<u8>, kind: Kind, x: u64) -> Result<(), AllocError> {
 }
 
 // Adds a mark for each kind that has a fault.
-fn put_ticks(
+fn put_ticks<O: Ownership>(
     out: &mut Vec<u8>,
-    index: &Index<'_>,
+    index: &Index<'_, O>,
     marks: &[Mark],
     width: u64,
 ) -> Result<(), AllocError> {
@@ -112,10 +113,10 @@ fn put_ticks(
     Ok(())
 }
 
-pub(crate) fn put_strip(
+pub(crate) fn put_strip<O: Ownership>(
     out: &mut Vec<u8>,
     shapes: &Shapes,
-    index: &Index<'_>,
+    index: &Index<'_, O>,
     records: &[u32],
 ) -> Result<(), AllocError> {
     let events = index.event_count();

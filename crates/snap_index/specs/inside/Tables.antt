@@ -1,12 +1,11 @@
 -- What an index keeps of the calls of its history.
 use Rattle.std.specs.Prelude.{ℕ, ◌≡◌, ◌<◌, ◌-◌, ◌++◌, List, [], length, replicate, map, count_by, get_or, slice_get, Option, Some, None}
 use Rattle.std.specs.Option.{option_and_then}
-use Rattle.snap_core.specs.Calls.{answer_at, calls_of, views_of}
+use Rattle.snap_core.specs.Calls.{answer_at, calls_of, views_of, Call as SpecCall}
 use Rattle.snap_core.specs.declared.entry.Entry.{Entry}
 use Rattle.snap_core.specs.declared.event.Event.{Event}
 use Rattle.snap_core.specs.Entries.{component_count}
-use Rattle.snap_core.specs.Events.{IsBoundedHistory}
-use Rattle.snap_core.specs.Calls.{Call as SpecCall}
+use Rattle.snap_core.specs.Bounded.{IsBoundedOrdered}
 use Rattle.snap_index.specs.declared.call.Call.{Call}
 use Rattle.snap_index.specs.declared.call.Write.{Write}
 use Rattle.snap_index.specs.declared.index.CompletedView.{CompletedView}
@@ -38,6 +37,6 @@ pub record AreTables (calls : List SpecCall) (views : List CompletedView) (updat
   pub of_pending : pending ≡ count_by is_pending calls
 
 pub record IsIndex (events : List Event) (calls : List Call) (views : List CompletedView) (updates : List (List Write)) (pending : ℕ) : Type 0 where
-  pub kept : IsBoundedHistory events
+  pub kept : IsBoundedOrdered events
   pub indexed_calls : calls ≡ map as_indexed (calls_of events)
   pub tables : AreTables (calls_of events) views updates pending

@@ -2,7 +2,7 @@
 use Rattle.std.specs.Prelude.{ℕ, ◌<◌, ◌≡◌, true, List, [], length, get_or, nat_lt, filter}
 use Rattle.snap_core.specs.declared.event.Event.{Event}
 use Rattle.snap_core.specs.Calls.{Call, calls_of, views_of, precedes}
-use Rattle.snap_core.specs.Events.{IsBoundedHistory}
+use Rattle.snap_core.specs.Bounded.{IsBoundedOrdered}
 use Rattle.snap_grid.specs.Columns.{GridValue, number, clashes, any_passes, drops}
 use Rattle.snap_theory.specs.Faults.{exceeds, read_fault, is_stale}
 use Rattle.snap_views.specs.Seen.{end_or_never, view_in}
@@ -24,7 +24,7 @@ pub record ArePlacesOf (calls : List Call) (n : ℕ) (begins ends : List ℕ) : 
 
 -- rows of the grid clash exactly when the views are a read fault, and one drops to another exactly when that view is stale
 pub record IsGridOf (events : List Event) (grid : GridValue) : Type 0 where
-  pub kept : IsBoundedHistory events
+  pub kept : IsBoundedOrdered events
   pub rows : length grid.begins ≡ length (views_of (calls_of events))
   pub clash : (a b : ℕ) → a < length (views_of (calls_of events)) → b < length (views_of (calls_of events)) → clashes grid a b ≡ read_fault (view_in (calls_of events) a) (view_in (calls_of events) b)
   pub drop : (a b : ℕ) → a < length (views_of (calls_of events)) → b < length (views_of (calls_of events)) → drops grid a b ≡ is_stale (view_in (calls_of events) a) (view_in (calls_of events) b)

@@ -1,6 +1,7 @@
 -- The job that the rows of a command ask for.
 use Rattle.std.specs.Prelude.{◌≡◌, ℕ, Bool, List, Option, Result, codes, IsErr, IsNone, IsSomeAnd, MatchResult}
 use Rattle.clap.specs.Words.{Row, Text}
+use Rattle.snap_core.specs.declared.limit.Limit.{Limit}
 use Rattle.snap_words.specs.Drawing.{AsksDrawWithin}
 use Rattle.snap_words.specs.Jobs.{AsksCheck, AsksFollow, AsksRecordWithin, AsksStatsWithin, AsksTooManyRounds, Checking, Flags, FollowsUnheeding, IsCheck, IsDraw, IsExplain, IsFollow, IsRecord, IsShrink, IsStats, LacksFollow, NamesInputTwice, files_of}
 use Rattle.snap_words.specs.Explaining.{AsksExplanationWithin, DrawsFaults}
@@ -16,13 +17,13 @@ use Rattle.snap_words.specs.declared.job.Windows.{Windows}
 -- If the rows of a command ask for a job, an answer gives such a job, on the files of the rows. If they ask for none, it gives none.
 pub record Finds (command : Text) (rows : List Row) (Gives : (Job → Type 0) → Type 0) (GivesNone : Type 0) : Type 0 where
   pub check : (asked : Checking) → command ≡ codes "check" → AsksCheck rows asked → Gives (IsCheck asked (files_of rows))
-  pub follow : (events : ℕ) (windows : Windows) → command ≡ codes "check" → AsksFollow events rows windows → Gives (IsFollow events windows (files_of rows))
-  pub shrink : (events : ℕ) (shrunk : Shrunk) → command ≡ codes "shrink" → AsksShrinkWithin events shrunk rows → Gives (IsShrink events shrunk (files_of rows))
+  pub follow : (limit : Limit) (windows : Windows) → command ≡ codes "check" → AsksFollow limit rows windows → Gives (IsFollow limit windows (files_of rows))
+  pub shrink : (limit : Limit) (shrunk : Shrunk) → command ≡ codes "shrink" → AsksShrinkWithin limit shrunk rows → Gives (IsShrink limit shrunk (files_of rows))
   pub drawn_map : command ≡ codes "shrink" → DrawsMap rows → GivesNone
-  pub explain : (events : ℕ) (drawn whole : Bool) (faults : ℕ) → command ≡ codes "explain" → AsksExplanationWithin events drawn whole faults rows → Gives (IsExplain events drawn whole faults (files_of rows))
+  pub explain : (limit : Limit) (drawn whole : Bool) (faults : ℕ) → command ≡ codes "explain" → AsksExplanationWithin limit drawn whole faults rows → Gives (IsExplain limit drawn whole faults (files_of rows))
   pub drawn_faults : command ≡ codes "explain" → DrawsFaults rows → GivesNone
-  pub draw : (events : ℕ) (form : Form) (part : Part) → command ≡ codes "draw" → AsksDrawWithin events rows form part → Gives (IsDraw events form part (files_of rows))
-  pub stats : (events : ℕ) (json : Bool) → command ≡ codes "stats" → AsksStatsWithin events json rows → Gives (IsStats events json (files_of rows))
+  pub draw : (limit : Limit) (form : Form) (part : Part) → command ≡ codes "draw" → AsksDrawWithin limit rows form part → Gives (IsDraw limit form part (files_of rows))
+  pub stats : (limit : Limit) (json : Bool) → command ≡ codes "stats" → AsksStatsWithin limit json rows → Gives (IsStats limit json (files_of rows))
   pub repeated : command ≡ codes "stats" → NamesInputTwice rows → GivesNone
   pub recording : (events workers rounds seed : ℕ) (flags : Flags) → command ≡ codes "record" → AsksRecordWithin events rows workers rounds seed flags → Gives (IsRecord workers rounds seed flags)
   pub unfollowed : command ≡ codes "check" → LacksFollow rows → GivesNone

@@ -5,9 +5,9 @@ use Rattle.snap_check.proofs.Verdicts.{no_fault_then}
 use Rattle.snap_check.proofs.judge.order_alone.Goals as goal
 
 pub unreachable-requires : goal.unreachable-requires
-unreachable-requires c =
+unreachable-requires g c =
     let none = no_fault_then c.args.index.now c.args.tally.now c.requires.tally (c.is_atomic-has_order.ensures.0 c.if-not-has_order.false) in
     false≢true (subst IsSome c.in_default.is (c.requires.given none.read))
 
 pub build_alone-requires-clause-fault : goal.build_alone-requires-clause-fault
-build_alone-requires-clause-fault c = no_fault_then c.args.index.now c.args.tally.now c.requires.tally (c.is_atomic-has_order.ensures.0 c.if-not-has_order.false)
+build_alone-requires-clause-fault g c = no_fault_then c.args.index.now c.args.tally.now c.requires.tally (c.is_atomic-has_order.ensures.0 c.if-not-has_order.false)

@@ -2,6 +2,9 @@ use Rattle.snap_core.specs.Calls.{calls_of}
 use Rattle.snap_order.proofs.PrintedNumbers.{all_of_order}
 use Rattle.snap_report.specs.Orders.{HasLine}
 use Rattle.snap_check.proofs.Verdicts.{verdict_by}
+use Rattle.snap_core.specs.Bounded.{IsHistoryBy}
+use Rattle.snap_core.specs.declared.writers.Writers.{Writers}
+use Rattle.snap_core.proofs.OrderedPushes.{bounded_as}
 use Rattle.snap_check.proofs.judge.verdict_of.Goals as goal
 
 pub report_shared-requires-clause-calls : goal.report_shared-requires-clause-calls
@@ -11,5 +14,9 @@ report_shared-requires-clause-calls g c κs within = λ numbers given.
 
 pub returns : goal.returns
 returns g c =
-    verdict_by c.args.index.now c.args.tally.now (record { kept = c.event_count-events.ensures.kept; whole = c.requires.tally }) c.args.order
-    c.requires.given c.requires.order c.status_by.result c.in_ok-text.text.items c.status_by.ensures c.in_ok-text.ensures
+    let es = c.args.index.now in
+    let known = c.event_count-events.ensures in
+    let judged = λ (writers : Writers) (history : IsHistoryBy writers es).
+    verdict_by writers es c.args.tally.now (record { kept = bounded_as writers es known.ordered history; whole = c.requires.tally }) c.args.order
+    c.requires.given c.requires.order c.status_by.result c.in_ok-text.text.items c.status_by.ensures c.in_ok-text.ensures in
+    record { verdict = judged g.O.Ownership.writers known.kept.history; by_writers = judged }

@@ -24,7 +24,7 @@ use Rattle.snap_conditions.proofs.integrity.integrity_part.Goals as goal
 use Rattle.snap_conditions.proofs.integrity.integrity_part.Goals.{then-not-is_written, else-not-is_written}
 
 pub note-part-requires : goal.note-part-requires
-note-part-requires c =
+note-part-requires g c =
     let calls = calls_of c.args.index.now in
     let r = view_in calls c.args.place in
     let count = ap (λ (p : PartValue IntegrityFault). p.count) c.loop-entry.invariant in
@@ -32,7 +32,7 @@ note-part-requires c =
     omega (arith, count, found_few (integrity_fault calls r) (listed r) c.loop-entry.entry-index, few, length-map (entries_of r.operation) (λ e. e.component), ap length c.requires.view.entries)
 
 pub loop-entry-preserved : goal.loop-entry-preserved
-loop-entry-preserved c =
+loop-entry-preserved g c =
     let es = c.args.index.now in
     let calls = calls_of es in
     let r = view_in calls c.args.place in
@@ -55,12 +55,12 @@ loop-entry-preserved c =
     ]
 
 pub returns-then-updates : goal.returns-then-updates
-returns-then-updates c =
+returns-then-updates g c =
     let r = view_in (calls_of c.args.index.now) c.args.place in
     c.none-part.ensures ∙ sym (none_unwritten c.args.index.now c.requires.kept r c.requires.view.shape (c.requires.updates.written c.if-updates.true))
 
 pub returns : goal.returns
-returns c =
+returns g c =
     let calls = calls_of c.args.index.now in
     let r = view_in calls c.args.place in
     c.loop-entry.invariant ∙ ap (λ xs. part_of (λ k. reported_integrity (r, k)) (filter (integrity_fault calls r) xs)) (take_all c.loop-entry.entry-index (listed r) (omega (arith, c.loop-entry-test.false, length-map (entries_of r.operation) (λ e. e.component), ap length c.requires.view.entries))) ∙ sym (integrity_alone calls r)

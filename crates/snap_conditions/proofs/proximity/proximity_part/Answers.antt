@@ -16,14 +16,14 @@ use Rattle.snap_conditions.proofs.Surrounded.{none_near}
 use Rattle.snap_conditions.proofs.proximity.proximity_part.Goals as goal
 
 pub note-part-requires : goal.note-part-requires
-note-part-requires c =
+note-part-requires g c =
     let calls = calls_of c.args.index.now in
     let r = view_in calls c.args.place in
     let count = ap (λ (p : PartValue ProximityFault). p.count) c.loop-k.invariant in
     omega (arith, count, found_few (λ k. old_fault calls r k || early_fault calls r k) components c.loop-k.k)
 
 pub loop-k-preserved : goal.loop-k-preserved
-loop-k-preserved c =
+loop-k-preserved g c =
     let es = c.args.index.now in
     let calls = calls_of es in
     let r = view_in calls c.args.place in
@@ -33,7 +33,7 @@ loop-k-preserved c =
     (c.proximity_fault.ensures es r c.requires.kept c.requires.view c.requires.updates ∙ ap (proximity_at calls r) (sym at))
 
 pub returns-then-not-is_before : goal.returns-then-not-is_before
-returns-then-not-is_before c =
+returns-then-not-is_before g c =
     let es = c.args.index.now in
     let r = view_in (calls_of es) c.args.place in
     let begun : r.begun ≡ c.args.view.now.call.begun = sym (ap (λ (z : IndexedCall). z.begun) c.requires.view.call) in
@@ -43,7 +43,7 @@ returns-then-not-is_before c =
     (ap (λ z. is_before z c.args.updates.now.latest) ended ∙ sym c.is_before.ensures ∙ c.if-not-is_before.true))
 
 pub returns : goal.returns
-returns c =
+returns g c =
     let calls = calls_of c.args.index.now in
     let r = view_in calls c.args.place in
     c.loop-k.invariant ∙ near_rest c.args.index.now c.requires.kept r c.args.updates.now.limit c.requires.updates.limit (256 - c.loop-k.k) c.loop-k.k (omega (arith, c.loop-k-test.false)) (omega (arith, c.loop-k.auto.k-end, c.requires.updates.limit.few)) ∙ sym (proximity_alone calls r)

@@ -4,4 +4,4 @@ use Rattle.snap_conditions.proofs.range.add_without_read.Goals as goal
 
 pub returns-clause-tally : goal.returns-clause-tally
 unfolding tally_of
-returns-clause-tally c = search rules
+returns-clause-tally g c = search rules

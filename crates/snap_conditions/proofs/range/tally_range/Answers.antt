@@ -6,17 +6,17 @@ use Rattle.snap_conditions.proofs.Ranges.{tallies_join, empty_between, next_fits
 use Rattle.snap_conditions.proofs.range.tally_range.Goals as goal
 
 pub loop-place-init : goal.loop-place-init
-loop-place-init c =
+loop-place-init g c =
     let calls = calls_of c.args.index.now in
     (c.new-updates.ensures, c.none-tally.ensures ∙ sym (ap (tally_of calls) (empty_between calls c.args.from) ∙ (tallies_join calls).nothing))
 
 pub add_view-requires-clause-fits : goal.add_view-requires-clause-fits
-add_view-requires-clause-fits c =
+add_view-requires-clause-fits g c =
     let here = tally_of (calls_of c.args.index.now) (view_in (calls_of c.args.index.now) c.loop-place.place ∷ []) in
-    subst (λ t. SumsFit t here) (sym c.loop-place.invariant.1) (next_fits c.args.index.now c.event_count-events.ensures.kept c.args.from c.loop-place.place (omega arith) (omega arith))
+    subst (λ t. SumsFit t here) (sym c.loop-place.invariant.1) (next_fits c.args.index.now c.event_count-events.ensures.ordered c.args.from c.loop-place.place (omega arith) (omega arith))
 
 pub loop-place-preserved : goal.loop-place-preserved
-loop-place-preserved c =
+loop-place-preserved g c =
     let calls = calls_of c.args.index.now in
     let place = c.loop-place.place in
     (c.add_view.ensures.numbers, c.add_view.ensures.tally ∙ ap (λ t. merged t (tally_of calls (view_in calls place ∷ []))) c.loop-place.invariant.1 ∙ next_tally calls c.args.from place (omega arith) (omega arith))

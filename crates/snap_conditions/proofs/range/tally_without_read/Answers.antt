@@ -11,17 +11,17 @@ fit_without : (a b : Tally) → SumsFit a b → SumsFit (without_read a) b
 fit_without a b s = record { integrity = s.integrity; proximity = s.proximity; read = omega (arith, s.read); write = s.write; stale = omega (arith, s.stale) }
 
 pub loop-place-init : goal.loop-place-init
-loop-place-init c =
+loop-place-init g c =
     let calls = calls_of c.args.index.now in
     (c.new-updates.ensures, c.none-tally.ensures ∙ ap without_read (sym (ap (tally_of calls) (empty_between calls c.args.from) ∙ (tallies_join calls).nothing)))
 
 pub add_without_read-requires-clause-fits : goal.add_without_read-requires-clause-fits
-add_without_read-requires-clause-fits c =
+add_without_read-requires-clause-fits g c =
     let here = tally_of (calls_of c.args.index.now) (view_in (calls_of c.args.index.now) c.loop-place.place ∷ []) in
-    subst (λ t. SumsFit t here) (sym c.loop-place.invariant.1) (fit_without _ here (next_fits c.args.index.now c.event_count-events.ensures.kept c.args.from c.loop-place.place (omega arith) (omega arith)))
+    subst (λ t. SumsFit t here) (sym c.loop-place.invariant.1) (fit_without _ here (next_fits c.args.index.now c.event_count-events.ensures.ordered c.args.from c.loop-place.place (omega arith) (omega arith)))
 
 pub loop-place-preserved : goal.loop-place-preserved
-loop-place-preserved c =
+loop-place-preserved g c =
     let calls = calls_of c.args.index.now in
     let place = c.loop-place.place in (
       c.add_without_read.ensures.numbers,

@@ -6,4 +6,4 @@ use Rattle.snap_views.specs.Seen.{views_between}
 use Rattle.snap_conditions.proofs.range.tally_without_read.Given as goal
 
 abbrev pub invariant-loop-place : goal.invariant-loop-place
-invariant-loop-place l = IsOfEntries (calls_of l.index) l.updates × (l.tally ≡ without_read (tally_of (calls_of l.index) (views_between (calls_of l.index) l.from l.place)))
+invariant-loop-place g l = IsOfEntries (calls_of l.index) l.updates × (l.tally ≡ without_read (tally_of (calls_of l.index) (views_between (calls_of l.index) l.from l.place)))

@@ -15,14 +15,14 @@ use Rattle.snap_conditions.proofs.read.read_part.Goals as goal
 use Rattle.snap_conditions.proofs.read.read_part.Goals.{then-is_read_fault, else-is_read_fault}
 
 pub note_fault-part-requires-clause-count : goal.note_fault-part-requires-clause-count
-note_fault-part-requires-clause-count c =
+note_fault-part-requires-clause-count g c =
     let calls = calls_of c.args.index.now in
     let r = view_in calls c.args.place in
     let count = ap (λ (p : PartValue ReadFault). p.count) c.loop-other.invariant in
     omega (arith, count, found_few (read_fault r) (views_of calls) c.loop-other.other)
 
 pub loop-other-preserved : goal.loop-other-preserved
-loop-other-preserved c =
+loop-other-preserved g c =
     let calls = calls_of c.args.index.now in
     let r = view_in calls c.args.place in
     let s = view_in calls c.loop-other.other in
@@ -36,7 +36,7 @@ loop-other-preserved c =
     ]
 
 pub returns : goal.returns
-returns c =
+returns g c =
     let calls = calls_of c.args.index.now in
     let r = view_in calls c.args.place in
     c.loop-other.invariant ∙ ap (λ xs. part_of (λ s. reported_read (r, s)) (filter (read_fault r) xs)) (take_all c.loop-other.other (views_of calls) (omega arith)) ∙ sym (read_alone calls r)

@@ -8,7 +8,7 @@ use Rattle.snap_conditions.specs.Tally.{reported_read}
 use Rattle.snap_conditions.proofs.read.read_part.Given as goal
 
 abbrev pub invariant-loop-other : goal.invariant-loop-other
-invariant-loop-other l =
+invariant-loop-other g l =
     let calls = calls_of l.index in
     let r = view_in calls l.place in
     l.part ≡ part_of (λ s. reported_read (r, s)) (filter (read_fault r) (take l.other (views_of calls)))

@@ -10,14 +10,14 @@ use Rattle.snap_theory.proofs.StaleViews.{stale_alone}
 use Rattle.snap_conditions.proofs.stale.stale_count.Goals as goal
 
 pub overflow_add-count : goal.overflow_add-count
-overflow_add-count c =
+overflow_add-count g c =
     let calls = calls_of c.args.index.now in
     let r = view_in calls c.args.place in
     let few = count_by-le-length (is_stale r) (take c.loop-other.other (views_of calls)) in
     record { fits = omega (arith, c.loop-other.invariant, few, length-take c.loop-other.other (views_of calls), c.from-count.ensures, byte_small c.is_stale.result) }
 
 pub loop-other-preserved : goal.loop-other-preserved
-loop-other-preserved c =
+loop-other-preserved g c =
     let calls = calls_of c.args.index.now in
     let r = view_in calls c.args.place in
     let s = view_in calls c.loop-other.other in
@@ -25,7 +25,7 @@ loop-other-preserved c =
     counted_more (is_stale r) (views_of calls) c.loop-other.other nobody c.is_stale.result c.loop-other.count c.from-count.result (omega arith) test c.from-count.ensures c.loop-other.invariant
 
 pub returns : goal.returns
-returns c =
+returns g c =
     let calls = calls_of c.args.index.now in
     let r = view_in calls c.args.place in
     c.loop-other.invariant ∙ ap (count_by (is_stale r)) (take_all c.loop-other.other (views_of calls) (omega arith)) ∙ sym (stale_alone calls r)

@@ -6,6 +6,6 @@ use Rattle.snap_views.specs.Seen.{view_in}
 use Rattle.snap_conditions.proofs.stale.stale_count.Given as goal
 
 abbrev pub invariant-loop-other : goal.invariant-loop-other
-invariant-loop-other l =
+invariant-loop-other g l =
     let calls = calls_of l.index in
     l.count ≡ count_by (is_stale (view_in calls l.place)) (take l.other (views_of calls))

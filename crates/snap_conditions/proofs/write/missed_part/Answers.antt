@@ -14,7 +14,7 @@ use Rattle.snap_conditions.proofs.Surrounded.{number_fits}
 use Rattle.snap_conditions.proofs.write.missed_part.Goals as goal
 
 pub returns-then-first-begins : goal.returns-then-first-begins
-returns-then-first-begins c =
+returns-then-first-begins g c =
     let es = c.args.index.now in
     let calls = calls_of es in
     let r = view_in calls c.args.place in
@@ -23,23 +23,23 @@ returns-then-first-begins c =
     c.none.ensures ∙ sym (missed_none calls r c.args.missed.component c.args.missed.ended c.args.begins.now tested (omega (arith, c.first_behind-first.ensures, c.if-first-begins.true)))
 
 pub offset_bounds-view-first : goal.offset_bounds-view-first
-offset_bounds-view-first c =
+offset_bounds-view-first g c =
     let few = rising_few _ c.requires.view.shape.rising (λ j d l. (c.requires.view.shape.fit j d l).0) in
     record { fits = omega (arith, c.requires.size, ap length c.requires.view.entries, few, c.first_behind-first.ensures, prefix_len-le-length (λ b. not (nat_lt c.args.missed.ended b)) c.args.begins.now) }
 
 pub bounds-view-first : goal.bounds-view-first
-bounds-view-first c = omega (arith, c.requires.size, c.first_behind-first.ensures, prefix_len-le-length (λ b. not (nat_lt c.args.missed.ended b)) c.args.begins.now, c.if-first-begins.false)
+bounds-view-first g c = omega (arith, c.requires.size, c.first_behind-first.ensures, prefix_len-le-length (λ b. not (nat_lt c.args.missed.ended b)) c.args.begins.now, c.if-first-begins.false)
 
 pub overflow_add-fault : goal.overflow_add-fault
-overflow_add-fault c = record { fits = omega (arith, number_fits c.args.index.now c.requires.kept c.args.missed.component (suc c.args.missed.number) c.args.missed.ended c.requires.ended) }
+overflow_add-fault g c = record { fits = omega (arith, number_fits c.args.index.now c.requires.kept c.args.missed.component (suc c.args.missed.number) c.args.missed.ended c.requires.ended) }
 
 pub of-requires : goal.of-requires
-of-requires c =
+of-requires g c =
     let within : position_or_len (λ b. nat_lt c.args.missed.ended b) c.args.begins.now < length c.args.begins.now = omega (arith, c.first_behind-first.ensures, prefix_len-le-length (λ b. not (nat_lt c.args.missed.ended b)) c.args.begins.now, c.if-first-begins.false) in
     omega (arith, c.requires.count, some_counted (λ b. nat_lt c.args.missed.ended b) c.args.begins.now within)
 
 pub returns : goal.returns
-returns c =
+returns g c =
     let es = c.args.index.now in
     let calls = calls_of es in
     let r = view_in calls c.args.place in

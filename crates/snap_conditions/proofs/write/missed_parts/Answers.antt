@@ -22,10 +22,10 @@ use Rattle.snap_conditions.proofs.write.missed_parts.Goals as goal
 use Rattle.snap_conditions.proofs.write.missed_parts.Goals.{then-ended-updates, else-ended-updates}
 
 pub with_missed-part-requires-clause-number : goal.with_missed-part-requires-clause-number
-with_missed-part-requires-clause-number c = c.requires.updates.numbers c.loop-j.j c.loop-j-test.true
+with_missed-part-requires-clause-number g c = c.requires.updates.numbers c.loop-j.j c.loop-j-test.true
 
 pub with_missed-part-requires-clause-ended : goal.with_missed-part-requires-clause-ended
-with_missed-part-requires-clause-ended c =
+with_missed-part-requires-clause-ended g c =
     let calls = calls_of c.args.index.now in
     let r = view_in calls c.args.place in
     let below : c.loop-j.j < 256 = omega (arith, c.loop-j-test.true, c.requires.updates.limit.few) in
@@ -33,7 +33,7 @@ with_missed-part-requires-clause-ended c =
     ∙ some_end (end_of (update_of calls c.loop-j.j (suc (shown_number r c.loop-j.j)))) _ (c.requires.updates.ends c.loop-j.j below) (omega (arith, c.if-ended-updates.true, c.fits-updates))
 
 pub with_missed-part-requires-clause-few : goal.with_missed-part-requires-clause-few
-with_missed-part-requires-clause-few c =
+with_missed-part-requires-clause-few g c =
     let es = c.args.index.now in
     let r = view_in (calls_of es) c.args.place in
     let there = view_there es c.args.place c.requires.place in
@@ -46,19 +46,19 @@ with_missed-part-requires-clause-few c =
     )
 
 pub with_missed-part-requires-clause-size : goal.with_missed-part-requires-clause-size
-with_missed-part-requires-clause-size c = omega (arith, length_permutation _ _ c.requires.same, c.requires.size)
+with_missed-part-requires-clause-size g c = omega (arith, length_permutation _ _ c.requires.same, c.requires.size)
 
 pub with_missed-part-requires-clause-count : goal.with_missed-part-requires-clause-count
-with_missed-part-requires-clause-count c =
+with_missed-part-requires-clause-count g c =
     let ended = get_or c.args.updates.now.ends c.loop-j.j 0 in
     cc (c.count_behind-count.ensures, sum_by-IsPermutation (λ b. cond (nat_lt ended b) 1 0) _ _ c.requires.same)
 
 pub count_behind-count-requires-clause-few : goal.count_behind-count-requires-clause-few
-count_behind-count-requires-clause-few c =
+count_behind-count-requires-clause-few g c =
     omega (arith, length_permutation _ _ c.requires.same, c.requires.size, ap length c.requires.view.entries, rising_few _ c.requires.view.shape.rising (λ j d l. (c.requires.view.shape.fit j d l).0))
 
 pub loop-j-preserved : goal.loop-j-preserved
-loop-j-preserved c =
+loop-j-preserved g c =
     let calls = calls_of c.args.index.now in
     let r = view_in calls c.args.place in
     let at : get_or components c.loop-j.j 0 ≡ c.loop-j.j = omega (arith, get_or-range_with_len 0 256 c.loop-j.j 0 (omega (arith, c.loop-j-test.true, c.requires.updates.limit.few))) in
@@ -74,7 +74,7 @@ loop-j-preserved c =
     ]
 
 pub returns : goal.returns
-returns c =
+returns g c =
     let calls = calls_of c.args.index.now in
     let r = view_in calls c.args.place in
     c.loop-j.invariant ∙ missed_rest c.args.index.now c.requires.kept r c.args.updates.now.limit c.requires.updates.limit (256 - c.loop-j.j) c.loop-j.j (omega (arith, c.loop-j-test.false)) (omega (arith, c.loop-j.auto.j-end, c.requires.updates.limit.few)) ∙ sym (write_alone calls r)

@@ -14,7 +14,7 @@ use Rattle.snap_views.proofs.Sizes.{rising_few}
 use Rattle.snap_conditions.proofs.write.with_missed.Goals as goal
 
 pub with_more-requires-clause-fits : goal.with_more-requires-clause-fits
-with_more-requires-clause-fits c =
+with_more-requires-clause-fits g c =
     omega (
       arith,
       c.requires.few,
@@ -26,7 +26,7 @@ with_more-requires-clause-fits c =
     )
 
 pub returns-then-count-gt0 : goal.returns-then-count-gt0
-returns-then-count-gt0 c =
+returns-then-count-gt0 g c =
     let es = c.args.index.now in
     let calls = calls_of es in
     let r = view_in calls c.args.place in
@@ -36,6 +36,6 @@ returns-then-count-gt0 c =
     c.with_more.ensures ∙ merged_missed calls r missed.component missed.ended c.args.count c.args.begins.now c.args.part tested c.requires.count (c.count.ensures.first.1 (omega arith))
 
 pub returns : goal.returns
-returns c =
+returns g c =
     let missed = part_of reported_write (missed_at (calls_of c.args.index.now) (view_in (calls_of c.args.index.now) c.args.place) c.args.missed.component) in
     c.missed_part.ensures ∙ merged_first c.args.part missed (omega arith) (false_from_ne_true _ (λ t. absurd (omega (arith, c.count.ensures.first.0 t))))

@@ -34,44 +34,44 @@ shown_begins calls r view updates begins seen around each i l =
     ∙ sym (ap (λ z. begin_or_0 (begin_of_shown calls z i)) seen.entries)
 
 pub returns-then-updates : goal.returns-then-updates
-returns-then-updates c =
+returns-then-updates g c =
     let calls = calls_of c.args.index.now in
     c.none.ensures ∙ sym (none_missed_around c.args.index.now c.requires.kept (view_in calls c.args.place) c.args.updates.now c.requires.updates c.requires.view.shape (omega (arith, c.type_inv.updates)) c.if-updates.true)
 
 pub begins_of-begins-requires : goal.begins_of-begins-requires
-begins_of-begins-requires c = few_shown _ c.args.view.now c.requires.view
+begins_of-begins-requires g c = few_shown _ c.args.view.now c.requires.view
 
 pub slice_bounds-begins-end : goal.slice_bounds-begins-end
-slice_bounds-begins-end c = omega (arith, c.begins_of-begins.ensures.size, few_shown _ c.args.view.now c.requires.view)
+slice_bounds-begins-end g c = omega (arith, c.begins_of-begins.ensures.size, few_shown _ c.args.view.now c.requires.view)
 
 pub slice_bounds-begins-end-2 : goal.slice_bounds-begins-end-2
-slice_bounds-begins-end-2 c = omega (arith, c.begins_of-begins.ensures.size, few_shown _ c.args.view.now c.requires.view)
+slice_bounds-begins-end-2 g c = omega (arith, c.begins_of-begins.ensures.size, few_shown _ c.args.view.now c.requires.view)
 
 pub slice_bounds-shown-end : goal.slice_bounds-shown-end
-slice_bounds-shown-end c = sym (shown_size _ c.args.view.now _ c.requires.view c.begins_of-begins.ensures.size)
+slice_bounds-shown-end g c = sym (shown_size _ c.args.view.now _ c.requires.view c.begins_of-begins.ensures.size)
 
 pub slice_bounds-shown-end-2 : goal.slice_bounds-shown-end-2
-slice_bounds-shown-end-2 c = sym (shown_size _ c.args.view.now _ c.requires.view c.begins_of-begins.ensures.size)
+slice_bounds-shown-end-2 g c = sym (shown_size _ c.args.view.now _ c.requires.view c.begins_of-begins.ensures.size)
 
 pub slice_bounds-copy-end : goal.slice_bounds-copy-end
-slice_bounds-copy-end c = omega (arith, c.begins_of-begins.ensures.size, few_shown _ c.args.view.now c.requires.view)
+slice_bounds-copy-end g c = omega (arith, c.begins_of-begins.ensures.size, few_shown _ c.args.view.now c.requires.view)
 
 pub slice_bounds-counted-end : goal.slice_bounds-counted-end
-slice_bounds-counted-end c = sym (shown_size _ c.args.view.now _ c.requires.view c.begins_of-begins.ensures.size)
+slice_bounds-counted-end g c = sym (shown_size _ c.args.view.now _ c.requires.view c.begins_of-begins.ensures.size)
 
 pub missed_parts-requires-clause-size : goal.missed_parts-requires-clause-size
-missed_parts-requires-clause-size c = shown_size _ c.args.view.now _ c.requires.view c.begins_of-begins.ensures.size
+missed_parts-requires-clause-size g c = shown_size _ c.args.view.now _ c.requires.view c.begins_of-begins.ensures.size
 
 pub missed_parts-requires-clause-begins : goal.missed_parts-requires-clause-begins
-missed_parts-requires-clause-begins c =
+missed_parts-requires-clause-begins g c =
     shown_begins _ _ c.args.view.now c.args.updates.now _ c.requires.view c.requires.updates c.begins_of-begins.ensures.each
 
 pub missed_parts-requires-2-clause-size : goal.missed_parts-requires-2-clause-size
-missed_parts-requires-2-clause-size c = shown_size _ c.args.view.now _ c.requires.view c.begins_of-begins.ensures.size
+missed_parts-requires-2-clause-size g c = shown_size _ c.args.view.now _ c.requires.view c.begins_of-begins.ensures.size
 
 pub missed_parts-requires-2-clause-begins : goal.missed_parts-requires-2-clause-begins
-missed_parts-requires-2-clause-begins c =
+missed_parts-requires-2-clause-begins g c =
     shown_begins _ _ c.args.view.now c.args.updates.now _ c.requires.view c.requires.updates c.begins_of-begins.ensures.each
 
 pub missed_parts-requires-2-clause-order : goal.missed_parts-requires-2-clause-order
-missed_parts-requires-2-clause-order c = λ many. IsNonDecreasingBy-from_sort (λ n. n) _ c.sort_unstable.ensures.sorted
+missed_parts-requires-2-clause-order g c = λ many. IsNonDecreasingBy-from_sort (λ n. n) _ c.sort_unstable.ensures.sorted

@@ -1,5 +1,5 @@
-use Rattle.snap_core.proofs.Laws.{history_grows}
+use Rattle.snap_core.proofs.Laws.{history_grows, history_grows_by}
 use Rattle.snap_core.proofs.law.histories_grow.Goals as goal
 
 pub returns : goal.returns
-returns c = history_grows
+returns c = record { one = history_grows; any = history_grows_by }

@@ -3,10 +3,10 @@ use Rattle.snap_csv.proofs.RoomFacts.{limit_kept, room_answers, room_counts, roo
 use Rattle.snap_csv.proofs.read.read_history_with.Goals as goal
 
 pub returns-clause-text : goal.returns-clause-text
-returns-clause-text g c = room_answers c.args.limit.events (g.R.Read.remaining (inner_of c.args.reader.now)) c.take_in.new.room.items c.history_shared.result c.in_ok-plain.ensures.text (rw c.deref.ensures.value at c.history_shared.ensures)
+returns-clause-text g c = room_answers c.args.limit (g.R.Read.remaining (inner_of c.args.reader.now)) c.take_in.new.room.items c.history_shared.result c.in_ok-plain.ensures.text (rw c.deref.ensures.value at c.history_shared.ensures)
 
 pub returns-clause-limit : goal.returns-clause-limit
-returns-clause-limit g c = limit_kept c.args.limit.events _ c.history_shared.result c.history_shared.ensures
+returns-clause-limit g c = limit_kept c.args.limit _ c.history_shared.result c.history_shared.ensures
 
 pub returns-clause-room : goal.returns-clause-room
 returns-clause-room g c = room_leaves (g.R.Read.remaining (inner_of c.args.reader.now)) c.take_in.new.room.items c.history_shared.result c.in_ok-plain.ensures.text.1

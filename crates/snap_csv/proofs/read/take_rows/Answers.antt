@@ -17,18 +17,18 @@ loop-i-init c = record {
 pub returns-then-not-branch : goal.returns-then-not-branch
 returns-then-not-branch c = λ rows begun.
     let m = c.loop-i.invariant.midway rows begun in
-    done c.args.limit.events rows (Stands c.loop-i.reader) c.loop-i.history c.loop-i.i m (rw c.if-not-branch.true at (c.in_ok-next_row.ensures _ m.left)) c.loop-i.invariant.limit
+    done c.args.limit rows (Stands c.loop-i.reader) c.loop-i.history c.loop-i.i m (rw c.if-not-branch.true at (c.in_ok-next_row.ensures _ m.left)) c.loop-i.invariant.limit
 
 pub returns-in_err-take_row : goal.returns-in_err-take_row
 returns-in_err-take_row c = λ rows begun.
     let m = c.loop-i.invariant.midway rows begun in
     let p = err_from_is_err_and c.from_residual-in_err-take_row.result c.from_residual-in_err-take_row.ensures.1 in
     let found = rw c.if-not-branch.false at (c.in_ok-next_row.ensures _ m.left) in
-    rw (p.1, p.2) (stopped c.args.limit.events rows (Stands c.loop-i.reader) c.loop-i.history.events c.loop-i.i m (fields_of c.next_row.new.row) found.0 c.in_err-take_row.field-0.0 found.1 (rw c.loop-i.invariant.limit at c.in_err-take_row.ensures.takes))
+    rw (p.1, p.2) (stopped c.args.limit rows (Stands c.loop-i.reader) c.loop-i.history.events c.loop-i.i m (fields_of c.next_row.new.row) found.0 c.in_err-take_row.field-0.0 found.1 (rw c.loop-i.invariant.limit at c.in_err-take_row.ensures.takes))
 
 pub loop-i-preserved : goal.loop-i-preserved
 loop-i-preserved c =
-    let limit = c.args.limit.events in
+    let limit = c.args.limit in
     let taken = rw c.loop-i.invariant.limit at c.in_ok-take_row.ensures.takes in
     let (fine, x, is, longer) = taken in
     record {

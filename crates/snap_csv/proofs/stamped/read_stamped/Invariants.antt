@@ -8,5 +8,5 @@ abbrev pub invariant-loop-i : goal.invariant-loop-i
 invariant-loop-i l = record {
   count : length l.stamped.items ≡ l.i;
   room : l.i ≤ l.limit.events;
-  midway : (rows : List Fields) → Stands l.fn.reader rows → MidStamped l.limit.events rows (Stands l.reader) l.stamped.items l.i;
+  midway : (rows : List Fields) → Stands l.fn.reader rows → MidStamped l.limit rows (Stands l.reader) l.stamped.items l.i;
 }

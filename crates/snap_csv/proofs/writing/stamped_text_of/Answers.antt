@@ -7,7 +7,7 @@ use Rattle.snap_csv.proofs.WriteFacts.{stamped_next}
 use Rattle.snap_csv.proofs.writing.stamped_text_of.Goals as goal
 
 pub loop-i-preserved : goal.loop-i-preserved
-loop-i-preserved c =
+loop-i-preserved g c =
     let events = c.events-events.result.now in
     let i = c.loop-i.i in
     let lt : i < length events = omega arith in
@@ -19,7 +19,7 @@ loop-i-preserved c =
     (rw c.index-events-i.is at (c.in_ok-write_stamped.ensures.line (stamped_lines (take i (zip c.args.at.now events))) c.loop-i.invariant))
 
 pub returns : goal.returns
-returns c =
+returns g c =
     let events = c.events-events.result.now in
     let size : length c.args.at.now ≡ length events = c.requires ∙ ap length (sym c.events-events.ensures.events) in
     let all : length (zip c.args.at.now events) ≤ c.loop-i.i = omega (arith, length-zip c.args.at.now events) in

@@ -5,4 +5,4 @@ use Rattle.snap_csv.specs.Writing.{Holds}
 use Rattle.snap_csv.proofs.writing.stamped_text_of.Given as goal
 
 abbrev pub invariant-loop-i : goal.invariant-loop-i
-invariant-loop-i l = Holds l.writer (stamped_lines (take l.i (zip l.at l.events)))
+invariant-loop-i g l = Holds l.writer (stamped_lines (take l.i (zip l.at l.events)))

@@ -6,4 +6,4 @@ use Rattle.snap_draw.specs.Marks.{kind_marks}
 use Rattle.snap_draw.proofs.marks.marks.Given as goal
 
 abbrev pub invariant-loop-kind : goal.invariant-loop-kind
-invariant-loop-kind l = l.marks.items ≡ [] ++ flat_map (kind_marks (calls_of l.index) l.tally) (take l.kind-index kinds)
+invariant-loop-kind g l = l.marks.items ≡ [] ++ flat_map (kind_marks (calls_of l.index) l.tally) (take l.kind-index kinds)

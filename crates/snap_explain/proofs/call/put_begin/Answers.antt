@@ -11,22 +11,22 @@ use Rattle.snap_explain.proofs.Pieces.{seven_pieces}
 use Rattle.snap_explain.proofs.call.put_begin.Goals as goal
 
 pub put_records-requires-clause-begun : goal.put_records-requires-clause-begun
-put_records-requires-clause-begun c =
+put_records-requires-clause-begun g c =
     let es = c.args.index.now in
     let is = op_is es c.args.number c.in-Some.call.now c.requires.below c.in-Some.ensures in
-    let within = (call_is_within es c.event_count-events.ensures.kept.history c.args.number c.requires.below).begun in
+    let within = (call_is_within es c.event_count-events.ensures.ordered.history c.args.number c.requires.below).begun in
     omega (arith, within, ap (λ (b : Call). b.begun) is, c.requires.each)
 
 pub put_records-requires-clause-ended : goal.put_records-requires-clause-ended
-put_records-requires-clause-ended c =
+put_records-requires-clause-ended g c =
     let es = c.args.index.now in
     let is = op_is es c.args.number c.in-Some.call.now c.requires.below c.in-Some.ensures in
-    let within = (call_is_within es c.event_count-events.ensures.kept.history c.args.number c.requires.below).ended in
+    let within = (call_is_within es c.event_count-events.ensures.ordered.history c.args.number c.requires.below).ended in
     λ place e. let few = within place (sym (ap (λ (b : Call). b.ended) is) ∙ e) in omega (arith, few, c.requires.each)
 
 pub returns : goal.returns
 unfolding call_begin
-returns c =
+returns g c =
     let es = c.args.index.now in
     let out = c.args.out.now.items in
     let n = c.args.number in

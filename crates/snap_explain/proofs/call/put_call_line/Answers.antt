@@ -8,12 +8,12 @@ use Rattle.snap_explain.proofs.Pieces.{three_pieces}
 use Rattle.snap_explain.proofs.call.put_call_line.Goals as goal
 
 pub put_operation-requires-clause-same : goal.put_operation-requires-clause-same
-put_operation-requires-clause-same c =
+put_operation-requires-clause-same g c =
     ap (λ (b : Call). b.op) (op_is c.args.index.now c.args.number c.in-Some.call.now c.requires.below c.in-Some.ensures)
 
 pub returns : goal.returns
 unfolding call_text
-returns c =
+returns g c =
     let out = c.args.out.now.items in
     let call = call_numbered (calls_of c.args.index.now) c.args.number in
     piece_added c.extend_from_slice.result c.extend_from_slice.new.self.items c.put_operation.new.out.items (codes "\n")

@@ -10,14 +10,14 @@ use Rattle.snap_explain.specs.Faults.{update_text}
 use Rattle.snap_explain.proofs.call.put_update_line.Goals as goal
 
 pub put_call_line-requires-clause-below : goal.put_call_line-requires-clause-below
-put_call_line-requires-clause-below c =
+put_call_line-requires-clause-below g c =
     let es = c.args.index.now in
     let m = mapped_some number_of (find (is_update_numbered c.args.component c.args.number) (calls_of es)) c.in-Some.call (sym c.in-Some.ensures) in
     let update = update_found es c.args.component c.args.number m.from m.is in
     subst (λ n. n < length (calls_of es)) m.to update.within
 
 pub returns-in-Some : goal.returns-in-Some
-returns-in-Some c =
+returns-in-Some g c =
     let es = c.args.index.now in
     let out = c.args.out.now.items in
     let text = call_text c.args.records.now in

@@ -12,12 +12,12 @@ use Rattle.snap_explain.proofs.explanation.explain.Goals as goal
 use Rattle.snap_explain.proofs.explanation.explain.Goals.{in-Some+in_ok-put_calls-in-Some, in-None+in_ok-put_faults-in-None}
 
 pub put_calls-requires-clause-calls : goal.put_calls-requires-clause-calls
-put_calls-requires-clause-calls c =
+put_calls-requires-clause-calls g c =
     let es = c.args.index.now in
     all_of_order (HasLine (calls_of es)) es (λ n below kind. record { below = below; kind = kind }) c.in-Some.order.now (c.requires.order c.in-Some.order c.in-Some.is)
 
 pub returns : goal.returns
-returns c =
+returns g c =
     let es = c.args.index.now in
     let records = c.args.records.now in
     let t = c.args.tally.now in

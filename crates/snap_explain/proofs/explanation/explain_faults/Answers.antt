@@ -8,7 +8,7 @@ use Rattle.snap_explain.proofs.FirstFaults.{long_of_atomic}
 use Rattle.snap_explain.proofs.explanation.explain_faults.Goals as goal
 
 pub returns-in-Some : goal.returns-in-Some
-returns-in-Some c =
+returns-in-Some g c =
     let calls = calls_of c.args.index.now in
     let atomic : has_no_fault (tally_of calls (views_of calls)) ≡ true = sym (ap (λ (t : Tally). has_no_fault t) c.requires.tally) ∙ sym c.requires.given ∙ ap is_some c.in-Some.is in
     IfOk-weaker c.explain.result _ _ (λ text e. e ∙ long_of_atomic c.args.detail.faults c.args.detail.listed c.args.records.now calls (tally_of calls (views_of calls)) atomic) c.explain.ensures

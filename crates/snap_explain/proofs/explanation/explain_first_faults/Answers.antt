@@ -8,14 +8,14 @@ use Rattle.snap_explain.proofs.FirstFaults.{long_of_faulty, long_with_one}
 use Rattle.snap_explain.proofs.explanation.explain_first_faults.Goals as goal
 
 pub returns-then-most-eq1 : goal.returns-then-most-eq1
-returns-then-most-eq1 c =
+returns-then-most-eq1 g c =
     let calls = calls_of c.args.index.now in
     let t = tally_of calls (views_of calls) in
     let one = long_with_one c.args.listed c.args.records.now calls t refl ∙ ap (λ most. long_explanation most c.args.listed c.args.records.now calls t) (sym c.if-most-eq1.true) in
     IfOk-weaker c.explain.result _ _ (λ text e. e ∙ one) c.explain.ensures
 
 pub returns : goal.returns
-returns c =
+returns g c =
     let calls = calls_of c.args.index.now in
     let records = c.args.records.now in
     let t = c.args.tally.now in

@@ -6,4 +6,4 @@ use Rattle.snap_explain.specs.Calls.{call_text}
 use Rattle.snap_explain.proofs.explanation.put_calls.Given as goal
 
 abbrev pub invariant-loop-number : goal.invariant-loop-number
-invariant-loop-number l = l.out.items ≡ l.fn.out.items ++ flat_map (call_text l.records) (calls_numbered (calls_of l.index) (take l.number-index l.numbers))
+invariant-loop-number g l = l.out.items ≡ l.fn.out.items ++ flat_map (call_text l.records) (calls_numbered (calls_of l.index) (take l.number-index l.numbers))

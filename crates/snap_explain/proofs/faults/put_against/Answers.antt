@@ -9,7 +9,7 @@ use Rattle.snap_explain.proofs.Pieces.{three_pieces}
 use Rattle.snap_explain.proofs.faults.put_against.Goals as goal
 
 pub returns : goal.returns
-returns c =
+returns g c =
     let out = c.args.out.now.items in
     let r = call_numbered (calls_of c.args.index.now) c.args.view in
     let s = call_numbered (calls_of c.args.index.now) c.args.other in

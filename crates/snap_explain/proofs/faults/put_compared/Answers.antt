@@ -6,7 +6,7 @@ use Rattle.snap_explain.proofs.Pieces.{five_pieces}
 use Rattle.snap_explain.proofs.faults.put_compared.Goals as goal
 
 pub returns : goal.returns
-returns c =
+returns g c =
     let out = c.args.out.now.items in
     let calls = calls_of c.args.index.now in
     let updates = c.args.updates.now in

@@ -7,7 +7,7 @@ use Rattle.snap_explain.proofs.faults.put_concerned.Goals as goal
 
 pub returns : goal.returns
 unfolding concerned_text
-returns c =
+returns g c =
     let out = c.args.out.now.items in
     let calls = calls_of c.args.index.now in
     let lines = c.args.lines in

@@ -8,13 +8,13 @@ use Rattle.snap_explain.specs.Faults.{concerned_text, fault_text, sentence_text}
 use Rattle.snap_explain.proofs.faults.put_fault.Goals as goal
 
 pub put_concerned-requires-clause-named : goal.put_concerned-requires-clause-named
-put_concerned-requires-clause-named c =
+put_concerned-requires-clause-named g c =
     let calls = calls_of c.args.index.now in
     subst (All (IsViewAt calls)) (sym (c.deref-2.ensures.value ∙ c.in_ok-calls.ensures.views)) (views_are_named calls c.args.fault.now c.requires.named)
 
 pub returns : goal.returns
 unfolding fault_text
-returns c =
+returns g c =
     let out = c.args.out.now.items in
     let calls = calls_of c.args.index.now in
     let lines = c.args.lines in

@@ -7,7 +7,7 @@ use Rattle.snap_explain.proofs.Pieces.{seven_pieces}
 use Rattle.snap_explain.proofs.faults.put_read.Goals as goal
 
 pub returns : goal.returns
-returns c =
+returns g c =
     let out = c.args.out.now.items in
     let calls = calls_of c.args.index.now in
     let f = c.args.fault.now in

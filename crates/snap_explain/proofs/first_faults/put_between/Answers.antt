@@ -9,13 +9,13 @@ use Rattle.snap_explain.proofs.FirstFaults.{IsTold, one_more, told_next, told_no
 use Rattle.snap_explain.proofs.first_faults.put_between.Goals as goal
 
 pub loop-place-init : goal.loop-place-init
-loop-place-init c =
+loop-place-init g c =
     let calls = calls_of c.args.index.now in
     let text = fault_text c.args.lines.listed c.args.lines.records.now calls in
     subst (λ rs. IsTold text c.args.left (firsts_among c.args.kind calls rs) c.args.out.now.items c.args.out.now.items c.args.left) (sym (empty_between calls c.args.between.0)) (told_none text c.args.left c.args.out.now.items)
 
 pub loop-place-preserved : goal.loop-place-preserved
-loop-place-preserved c =
+loop-place-preserved g c =
     let calls = calls_of c.args.index.now in
     let text = fault_text c.args.lines.listed c.args.lines.records.now calls in
     let next = one_more calls c.args.between.0 c.loop-place.place c.loop-place.auto.place (omega (arith, c.loop-place-test.true, c.requires.views)) in
@@ -23,14 +23,14 @@ loop-place-preserved c =
     (told_next text c.args.kind calls _ _ c.args.left _ _ _ _ _ c.loop-place.invariant c.in_ok-more.ensures.text c.in_ok-more.ensures.more)
 
 pub returns-clause-text : goal.returns-clause-text
-returns-clause-text c =
+returns-clause-text g c =
     let calls = calls_of c.args.index.now in
     let end : c.loop-place.place ≡ c.args.between.1 = omega (arith, c.loop-place-test.false, c.loop-place.auto.place-end c.requires.order) in
     subst (λ to. c.loop-place.out.items ≡ c.args.out.now.items ++ flat_map (fault_text c.args.lines.listed c.args.lines.records.now calls) (take c.args.left (firsts_among c.args.kind calls (views_between calls c.args.between.0 to)))) end
     c.loop-place.invariant.said
 
 pub returns-clause-more : goal.returns-clause-more
-returns-clause-more c =
+returns-clause-more g c =
     let calls = calls_of c.args.index.now in
     let end : c.loop-place.place ≡ c.args.between.1 = omega (arith, c.loop-place-test.false, c.loop-place.auto.place-end c.requires.order) in
     subst (λ to. c.loop-place.more + length (take c.args.left (firsts_among c.args.kind calls (views_between calls c.args.between.0 to))) ≡ c.args.left) end c.loop-place.invariant.more

@@ -10,7 +10,7 @@ use Rattle.snap_explain.proofs.FirstFaults.{IsTold, told_next}
 use Rattle.snap_explain.proofs.first_faults.put_blocks.Goals as goal
 
 pub loop-from-preserved : goal.loop-from-preserved
-loop-from-preserved c =
+loop-from-preserved g c =
     let calls = calls_of c.args.grid.now in
     let from = c.loop-from.from in
     let to = from + c.min.result in

@@ -8,11 +8,11 @@ use Rattle.snap_explain.proofs.FirstFaults.{IsTold}
 use Rattle.snap_explain.proofs.first_faults.put_blocks.Given as goal
 
 abbrev pub invariant-loop-from : goal.invariant-loop-from
-invariant-loop-from l = record {
+invariant-loop-from g l = record {
   all : l.count ≡ length (views_of (calls_of l.grid));
   within : l.from ≤ l.count;
   told : IsTold (fault_text l.lines.listed l.lines.records.now (calls_of l.grid)) l.most (firsts_among Read (calls_of l.grid) (views_between (calls_of l.grid) 0 l.from)) l.fn.out.items l.out.items l.left;
 }
 
 abbrev pub decreases-loop-from : goal.decreases-loop-from
-decreases-loop-from l = l.count - l.from
+decreases-loop-from g l = l.count - l.from

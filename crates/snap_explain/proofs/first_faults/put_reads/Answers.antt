@@ -7,7 +7,7 @@ use Rattle.snap_explain.proofs.FirstFaults.{is_nothing, no_read, read_part_of, u
 use Rattle.snap_explain.proofs.first_faults.put_reads.Goals as goal
 
 pub returns-then-is_none : goal.returns-then-is_none
-returns-then-is_none c =
+returns-then-is_none g c =
     let calls = calls_of c.args.index.now in
     let rs = views_of calls in
     let none = sym c.first.ensures.first ∙ is_nothing c.first.result (c.is_none.ensures ∙ ap not c.if-is_none.true) in

@@ -14,7 +14,7 @@ unfolding refusal_explanation
 returns c =
     let place = c.args.place in
     let fault = c.args.fault in
-    let limit = c.args.limit.events in
+    let limit = c.args.limit in
     let there = record_at (rows_of c.args.text.now) place in
     let one : option_map (λ fields. map (λ f. f.items) fields.now) c.as_deref.result ≡ there = same_fields _ _ c.as_deref.ensures.value ∙ c.in_ok-record.ensures in
     let two : option_map (λ fields. map (λ f. f.items) fields.now) c.as_deref-2.result ≡ there = same_fields _ _ c.as_deref-2.ensures.value ∙ c.in_ok-record.ensures in

@@ -20,6 +20,7 @@ nothing faults.Idle found g h = refl
 nothing faults.OtherOp found g h = refl
 nothing faults.Writer found g h = refl
 nothing faults.Number found g h = refl
+nothing faults.Order found g h = refl
 nothing faults.TooLong found g h = refl
 nothing faults.BadAt found g h = refl
 nothing faults.Repeated found g h = refl

@@ -10,7 +10,7 @@ use Rattle.snap_explain.proofs.view.put_numbers.Goals as goal
 
 pub returns : goal.returns
 unfolding shown_number shown
-returns c =
+returns g c =
     let out = c.args.out.now.items in
     let calls = calls_of c.args.index.now in
     let updates = c.args.updates.now in

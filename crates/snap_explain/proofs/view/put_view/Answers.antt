@@ -8,7 +8,7 @@ use Rattle.snap_explain.proofs.view.put_view.Goals as goal
 
 pub returns : goal.returns
 unfolding view_text
-returns c =
+returns g c =
     let out = c.args.out.now.items in
     let call = call_numbered (calls_of c.args.index.now) c.args.view in
     piece_added c.extend_from_slice-2.result c.extend_from_slice-2.new.self.items c.put_shown.new.out.items (codes "\n")

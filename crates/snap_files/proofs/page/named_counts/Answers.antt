@@ -9,7 +9,7 @@ use Rattle.snap_files.proofs.page.named_counts.Goals as goal
 
 pub returns-clause-page : goal.returns-clause-page
 returns-clause-page g c =
-    let limit = c.args.options.limit.events in
+    let limit = c.args.options.limit in
     let name = c.args.name.now in
     let status = c.in_ok-status.status in
     let counts = c.in_ok-status.counts in

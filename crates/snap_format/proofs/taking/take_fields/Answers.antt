@@ -10,5 +10,5 @@ returns-in-Err-clause-takes c = (refl, row_full c.args.history.now.limit c.args.
 
 pub returns-in-Err-2-clause-takes : goal.returns-in-Err-2-clause-takes
 returns-in-Err-2-clause-takes c =
-    let room : length c.args.history.now.events < c.args.history.now.limit = search rules in
+    let room : length c.args.history.now.events < c.args.history.now.limit.events = search rules in
     row_fails c.args.history.now.limit c.args.place c.args.history.now.events _ _ _ _ _ c.in-Err.field-0 refl room c.in-Err.ensures

@@ -8,7 +8,7 @@ use Rattle.snap_json.proofs.Values.{array_added}
 use Rattle.snap_json.proofs.call.put_array.Goals as goal
 
 pub returns : goal.returns
-returns c =
+returns g c =
     let old = c.args.line.now.writer.tokens in
     let entries = entries_in (call_numbered (calls_of c.args.index.now) c.args.number).operation in
     same_text c.end_array.result c.end_array.new.self.writer.tokens _ (old ++ json_tokens (array (entry_items entries)))

@@ -13,26 +13,26 @@ use Rattle.snap_json.proofs.Values.{eight_joined}
 use Rattle.snap_json.proofs.call.put_call.Goals as goal
 
 pub put_records-requires-clause-begun : goal.put_records-requires-clause-begun
-put_records-requires-clause-begun c =
+put_records-requires-clause-begun g c =
     let es = c.args.index.now in
     let is = op_is es c.args.number c.in-Some.call.now c.requires.below c.in-Some.ensures in
-    let within = (call_is_within es c.event_count-events.ensures.kept.history c.args.number c.requires.below).begun in
+    let within = (call_is_within es c.event_count-events.ensures.ordered.history c.args.number c.requires.below).begun in
     omega (arith, within, ap (λ (b : Call). b.begun) is, c.requires.each)
 
 pub put_records-requires-clause-ended : goal.put_records-requires-clause-ended
-put_records-requires-clause-ended c =
+put_records-requires-clause-ended g c =
     let es = c.args.index.now in
     let is = op_is es c.args.number c.in-Some.call.now c.requires.below c.in-Some.ensures in
-    let within = (call_is_within es c.event_count-events.ensures.kept.history c.args.number c.requires.below).ended in
+    let within = (call_is_within es c.event_count-events.ensures.ordered.history c.args.number c.requires.below).ended in
     λ place e. let few = within place (sym (ap (λ (b : Call). b.ended) is) ∙ e) in omega (arith, few, c.requires.each)
 
 pub put_array-requires-clause-same : goal.put_array-requires-clause-same
-put_array-requires-clause-same c =
+put_array-requires-clause-same g c =
     ap (λ (b : Call). b.op) (op_is c.args.index.now c.args.number c.in-Some.call.now c.requires.below c.in-Some.ensures)
 
 pub returns : goal.returns
 unfolding call_json
-returns c =
+returns g c =
     let es = c.args.index.now in
     let old = c.args.line.now.writer.tokens in
     let n = c.args.number in

@@ -8,7 +8,7 @@ use Rattle.snap_json.proofs.Calls.{update_entries, view_entries}
 use Rattle.snap_json.proofs.call.put_operation.Goals as goal
 
 pub returns-in-Update : goal.returns-in-Update
-returns-in-Update c =
+returns-in-Update g c =
     let old = c.args.line.now.writer.tokens in
     let o = (call_numbered (calls_of c.args.index.now) c.args.number).operation in
     same_text c.put_entry.result c.put_entry.new.line.writer.tokens _ (old ++ flat_map (λ entry. json_tokens (entry_json entry)) (entries_in o))
@@ -16,7 +16,7 @@ returns-in-Update c =
     c.put_entry.ensures
 
 pub returns-in-View : goal.returns-in-View
-returns-in-View c =
+returns-in-View g c =
     let old = c.args.line.now.writer.tokens in
     let o = (call_numbered (calls_of c.args.index.now) c.args.number).operation in
     same_text c.put_shown.result c.put_shown.new.line.writer.tokens _ (old ++ flat_map (λ entry. json_tokens (entry_json entry)) (entries_in o))

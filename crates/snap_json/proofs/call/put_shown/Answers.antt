@@ -13,7 +13,7 @@ use Rattle.snap_json.proofs.Calls.{none_shown}
 use Rattle.snap_json.proofs.call.put_shown.Goals as goal
 
 pub returns-in-None : goal.returns-in-None
-returns-in-None c =
+returns-in-None g c =
     let old = c.args.line.now.writer.tokens in
     let calls = calls_of c.args.index.now in
     let call = call_numbered calls c.args.number in

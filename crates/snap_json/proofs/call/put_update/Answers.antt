@@ -11,14 +11,14 @@ use Rattle.snap_json.specs.Calls.{call_json, update_json}
 use Rattle.snap_json.proofs.call.put_update.Goals as goal
 
 pub put_call-requires-clause-below : goal.put_call-requires-clause-below
-put_call-requires-clause-below c =
+put_call-requires-clause-below g c =
     let es = c.args.index.now in
     let m = mapped_some number_of (find (is_update_numbered c.args.component c.args.number) (calls_of es)) c.in-Some.call (sym c.in-Some.ensures) in
     let update = update_found es c.args.component c.args.number m.from m.is in
     subst (λ n. n < length (calls_of es)) m.to update.within
 
 pub returns-in-Some : goal.returns-in-Some
-returns-in-Some c =
+returns-in-Some g c =
     let es = c.args.index.now in
     let old = c.args.line.now.writer.tokens in
     let json = call_json c.args.records.now in

@@ -19,7 +19,7 @@ differences_then_end records calls f (u ∷ us) =
     ∙ ap (λ ts. json_tokens (difference_json records calls f u) ++ ts) (differences_then_end records calls f us)
 
 pub returns : goal.returns
-returns c =
+returns g c =
     let old = c.args.line.now.writer.tokens in
     let calls = calls_of c.args.index.now in
     let records = c.args.records.now in

@@ -11,7 +11,7 @@ use Rattle.snap_json.proofs.differs.put_difference.Goals as goal
 
 pub returns : goal.returns
 unfolding difference_json
-returns c =
+returns g c =
     let old = c.args.line.now.writer.tokens in
     let calls = calls_of c.args.index.now in
     let records = c.args.records.now in

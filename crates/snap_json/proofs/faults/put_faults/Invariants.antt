@@ -8,6 +8,6 @@ use Rattle.snap_json.specs.Faults.{first_json}
 use Rattle.snap_json.proofs.faults.put_faults.Given as goal
 
 abbrev pub invariant-loop-kind : goal.invariant-loop-kind
-invariant-loop-kind l =
+invariant-loop-kind g l =
     l.line.writer.tokens
     ≡ l.fn.line.writer.tokens ++ flat_map (λ kind. token.key (kind_word kind) ∷ json_tokens (first_json l.records (calls_of l.index) l.tally kind)) (take l.kind-index kinds)

@@ -8,7 +8,7 @@ use Rattle.snap_json.specs.Faults.{first_json}
 use Rattle.snap_json.proofs.faults.put_kind.Goals as goal
 
 pub returns : goal.returns
-returns c =
+returns g c =
     let old = c.args.line.now.writer.tokens in
     let first = json_tokens (first_json c.args.records.now (calls_of c.args.index.now) c.args.tally.now c.args.kind) in
     same_text c.put_first.result c.put_first.new.line.writer.tokens _ (old ++ (token.key (kind_word c.args.kind) ∷ first))

@@ -12,7 +12,7 @@ use Rattle.snap_json.proofs.faults.put_proximity.Goals as goal
 
 pub returns : goal.returns
 unfolding proximity_json
-returns c =
+returns g c =
     let old = c.args.line.now.writer.tokens in
     let calls = calls_of c.args.index.now in
     let records = c.args.records.now in

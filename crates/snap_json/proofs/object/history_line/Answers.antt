@@ -9,7 +9,7 @@ use Rattle.snap_json.proofs.Values.{fields_then_end, line_is}
 use Rattle.snap_json.proofs.object.history_line.Goals as goal
 
 pub returns : goal.returns
-returns c =
+returns g c =
     let es = c.args.index.now in
     let t = c.args.tally.now in
     let records = c.args.records.now in

@@ -10,7 +10,7 @@ use Rattle.snap_json.proofs.Values.{four_joined}
 use Rattle.snap_json.proofs.object.put_counts.Goals as goal
 
 pub returns : goal.returns
-returns c =
+returns g c =
     let es = c.args.index.now in
     let old = c.args.line.now.writer.tokens in
     let events : c.from.result ≡ length es = c.from.ensures ∙ c.event_count.ensures.count in

@@ -55,9 +55,9 @@ loop-number-preserved c =
     let below : n < length calls = within as_indexed calls n c.in-Some.call.now c.in-Some.ensures in
     let is = found as_indexed calls n nobody c.in-Some.call.now below c.in-Some.ensures in
     let unseen : get_or c.loop-number.seen.items n false ≡ false = read_false c.loop-number.seen.items n c.index.result.now (omega (arith, below, s.seen_size)) c.index.ensures ∙ c.if-index.false in
-    let m = may_follow calls c.args.order.now c.loop-number.number-index n c.loop-number.seen.items c.loop-number.last c.loop-number.latest (numbered_calls es) (bytes_of es c.event_count-events.ensures.kept) s below unseen (c.may_stand.ensures.0 c.if-not-may_stand.false) in
+    let m = may_follow calls c.args.order.now c.loop-number.number-index n c.loop-number.seen.items c.loop-number.last c.loop-number.latest (numbered_calls es) (bytes_of es c.event_count-events.ensures.ordered) s below unseen (c.may_stand.ensures.0 c.if-not-may_stand.false) in
     let written : Puts (call_numbered calls n) c.loop-number.last c.match-call-2.last = elim c.match-call-2.branch [
-      | in-Update w ↦ puts_update calls n c.in-Some.call.now w.in-Update.entry c.loop-number.last c.match-call-2.last is w.in-Update.is (bytes_of es c.event_count-events.ensures.kept) below s.last_size (w.last-is ∙ w.put.ensures)
+      | in-Update w ↦ puts_update calls n c.in-Some.call.now w.in-Update.entry c.loop-number.last c.match-call-2.last is w.in-Update.is (bytes_of es c.event_count-events.ensures.ordered) below s.last_size (w.last-is ∙ w.put.ensures)
       | in_default-op w ↦ puts_nothing calls n c.in-Some.call.now c.loop-number.last c.match-call-2.last is w.in_default-op.not-Update w.last-is
     ] in
     next_state calls c.args.order.now c.loop-number.number-index n c.loop-number.seen.items c.loop-number.last c.match-call-2.last c.loop-number.latest c.max-latest.result (numbered_calls es) s c.loop-number-test.true refl below m

@@ -20,7 +20,7 @@ pub returns-in-Some-answer : goal.returns-in-Some-answer
 returns-in-Some-answer c =
     let indexed_call = found as_indexed (calls_of c.args.index.now) c.args.number nobody c.in-Some.call.now c.requires.number c.in-Some.ensures in
     let early = ap (λ (z : Call). is_before z.ended c.args.latest) (sym indexed_call) ∙ sym c.ends_before.ensures ∙ c.if-ends_before.false in
-    let s = view_stands c.args.index.now c.requires.history (call_numbered (calls_of c.args.index.now) c.args.number) c.in-Some-answer.view.now c.args.last.now c.args.latest
+    let s = view_stands c.args.index.now c.requires.ordered (call_numbered (calls_of c.args.index.now) c.args.number) c.in-Some-answer.view.now c.args.last.now c.args.latest
     (numbered_there (calls_of c.args.index.now) c.args.number c.requires.number) (sym (ap (λ (z : Call). z.op) indexed_call) ∙ c.in-View.is) (c.in-Some-answer.ensures ∙ answer_at (calls_of c.args.index.now) c.args.number c.requires.number) early in
     (λ t. s.1 (c.are_shown_by.ensures.0 t), λ m. c.are_shown_by.ensures.1 (s.0 m))
 
@@ -28,6 +28,6 @@ pub returns-in-None : goal.returns-in-None
 returns-in-None c =
     let indexed_call = found as_indexed (calls_of c.args.index.now) c.args.number nobody c.in-Some.call.now c.requires.number c.in-Some.ensures in (
       λ t. absurd (false≢true t),
-      λ m. absurd (pending_never c.args.index.now c.requires.history (call_numbered (calls_of c.args.index.now) c.args.number) c.args.last.now c.args.latest
+      λ m. absurd (pending_never c.args.index.now c.requires.ordered (call_numbered (calls_of c.args.index.now) c.args.number) c.args.last.now c.args.latest
           (numbered_there (calls_of c.args.index.now) c.args.number c.requires.number) (sym (ap (λ (z : Call). z.op) indexed_call) ∙ c.in-View.is) (c.in-None.ensures ∙ answer_at (calls_of c.args.index.now) c.args.number c.requires.number) m),
     )

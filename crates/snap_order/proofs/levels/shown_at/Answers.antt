@@ -6,8 +6,8 @@ use Rattle.snap_order.proofs.levels.shown_at.Goals as goal
 
 pub returns-in-Some : goal.returns-in-Some
 unfolding shown_number shown
-returns-in-Some c = c.number.ensures ∙ ap (λ es. number_in (entry_of c.args.component es)) (read_view (calls_of c.args.index.now) c.args.place c.in-Some.view.now c.in-Some.ensures)
+returns-in-Some g c = c.number.ensures ∙ ap (λ es. number_in (entry_of c.args.component es)) (read_view (calls_of c.args.index.now) c.args.place c.in-Some.view.now c.in-Some.ensures)
 
 pub returns-in-None : goal.returns-in-None
 unfolding shown_number shown
-returns-in-None c = ap (λ es. number_in (entry_of c.args.component es)) (no_view (calls_of c.args.index.now) c.args.place c.in-None.ensures)
+returns-in-None g c = ap (λ es. number_in (entry_of c.args.component es)) (no_view (calls_of c.args.index.now) c.args.place c.in-None.ensures)

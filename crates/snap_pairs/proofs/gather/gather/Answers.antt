@@ -7,7 +7,7 @@ use Rattle.snap_pairs.proofs.Gathering.{AreGathered, last_answer, answers_before
 use Rattle.snap_pairs.proofs.gather.gather.Goals as goal
 
 pub loop-answer-preserved : goal.loop-answer-preserved
-loop-answer-preserved c =
+loop-answer-preserved g c =
     let calls = calls_of c.args.index.now in
     let counter = c.args.counter.now in
     let i = c.loop-answer.invariant in
@@ -31,13 +31,13 @@ loop-answer-preserved c =
     }
 
 pub put_tallies-requires-clause-slots : goal.put_tallies-requires-clause-slots
-put_tallies-requires-clause-slots c =
+put_tallies-requires-clause-slots g c =
     let calls = calls_of c.args.index.now in
     let fit = subst (FitSlots calls c.args.counter.now.pieces) (sym c.as_mut_slice.ensures.value) c.loop-answer.invariant.gathered.fit in
     subst (λ n. FitSlots calls n c.as_mut_slice.result.now) c.requires.pieces fit
 
 pub put_tallies-requires-clause-pairs : goal.put_tallies-requires-clause-pairs
-put_tallies-requires-clause-pairs c =
+put_tallies-requires-clause-pairs g c =
     let calls = calls_of c.args.index.now in
     let counter = c.args.counter.now in
     let a = last_answer calls counter (vec_items c.pop.new.self) c.in-Some.answer (vec_items c.loop-answer.answers) c.in_ok-claim.field-0 c.in-Some.ensures.items c.loop-answer.invariant.answers c.in_ok-claim.was in
@@ -45,17 +45,17 @@ put_tallies-requires-clause-pairs c =
     subst (λ n. AreTallied calls n c.as_slice.result.now) c.requires.pieces tallied
 
 pub loop-answer-smaller : goal.loop-answer-smaller
-loop-answer-smaller c = omega (arith, c.in-Some.ensures.len)
+loop-answer-smaller g c = omega (arith, c.in-Some.ensures.len)
 
 pub returns-clause-count : goal.returns-clause-count
-returns-clause-count c = search rules
+returns-clause-count g c = search rules
 
 pub returns-clause-claims : goal.returns-clause-claims
-returns-clause-claims c = (c.loop-answer.invariant.gathered.of_counter, c.loop-answer.invariant.gathered.finished)
+returns-clause-claims g c = (c.loop-answer.invariant.gathered.of_counter, c.loop-answer.invariant.gathered.finished)
 
 pub returns-clause-slots : goal.returns-clause-slots
-returns-clause-slots c =
+returns-clause-slots g c =
     subst (λ n. FitSlots (calls_of c.args.index.now) n (vec_items c.loop-answer.slots)) c.requires.pieces c.loop-answer.invariant.gathered.fit
 
 pub returns-clause-full : goal.returns-clause-full
-returns-clause-full c = c.loop-answer.invariant.gathered.full
+returns-clause-full g c = c.loop-answer.invariant.gathered.full

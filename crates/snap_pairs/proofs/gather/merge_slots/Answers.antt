@@ -10,14 +10,14 @@ use Rattle.snap_views.proofs.Pieces.{starts_at_zero, starts_grow, starts_inside,
 use Rattle.snap_pairs.proofs.gather.merge_slots.Goals as goal
 
 pub loop-slot-init : goal.loop-slot-init
-loop-slot-init c =
+loop-slot-init g c =
     let calls = calls_of c.args.index.now in
     let views = length (views_of calls) in
     let start = starts_at_zero views c.args.cutting.pieces in
     c.none-all.ensures ∙ sym (front_none calls (piece_start c.args.cutting.pieces 0 views) (block_from (piece_start c.args.cutting.pieces 0 views) views) start (ap (λ n. block_from n views) start ∙ blocks_at_zero views) ∙ (tallies_join calls).nothing)
 
 pub merge-all-requires : goal.merge-all-requires
-merge-all-requires c =
+merge-all-requires g c =
     let events = c.args.index.now in
     let calls = calls_of events in
     let views = length (views_of calls) in
@@ -28,11 +28,11 @@ merge-all-requires c =
     let from = piece_start p i views in
     let to = piece_start p (i + 1) views in
     let grow = starts_grow i (i + 1) views p some (omega arith) in
-    let fits = front_fits events c.event_count-events.ensures.kept from to (block_from from views) (block_from to views) grow (starts_inside (i + 1) views p some (omega (arith, piece.0))) (blocks_grow from to views grow) (blocks_inside to views) in
+    let fits = front_fits events c.event_count-events.ensures.ordered from to (block_from from views) (block_from to views) grow (starts_inside (i + 1) views p some (omega (arith, piece.0))) (blocks_grow from to views grow) (blocks_inside to views) in
     subst (λ (t : Tally). SumsFit c.loop-slot.all t) (sym piece.1) (subst (λ (t : Tally). SumsFit t (with_reads (tally_of calls (views_in_piece calls p i)) (tally_of calls (views_in_blocks calls p i)))) (sym c.loop-slot.invariant) fits)
 
 pub loop-slot-preserved : goal.loop-slot-preserved
-loop-slot-preserved c =
+loop-slot-preserved g c =
     let calls = calls_of c.args.index.now in
     let views = length (views_of calls) in
     let p = c.args.cutting.pieces in
@@ -46,7 +46,7 @@ loop-slot-preserved c =
     ∙ front_more calls from to (block_from from views) (block_from to views) grow (blocks_grow from to views grow)
 
 pub returns : goal.returns
-returns c =
+returns g c =
     let calls = calls_of c.args.index.now in
     let views = length (views_of calls) in
     let p = c.args.cutting.pieces in

@@ -7,7 +7,7 @@ use Rattle.snap_pairs.specs.inside.Pieces.{IsPieceTally, IsFull}
 use Rattle.snap_pairs.proofs.gather.put_tallies.Goals as goal
 
 pub loop-pair-preserved : goal.loop-pair-preserved
-loop-pair-preserved c =
+loop-pair-preserved g c =
     let calls = calls_of c.args.index.now in
     let n = c.args.cutting.pieces in
     let i = c.loop-pair.pair-index in

@@ -7,7 +7,7 @@ use Rattle.snap_views.proofs.Pieces.{ends_whole, starts_at_zero}
 use Rattle.snap_pairs.proofs.reads.joined.Goals as goal
 
 pub loop-part-preserved : goal.loop-part-preserved
-loop-part-preserved c =
+loop-part-preserved g c =
     let calls = calls_of c.args.index.now in
     let workers = c.args.cutting.workers in
     let rest = vec_items c.pop.new.self in
@@ -27,7 +27,7 @@ loop-part-preserved c =
     }
 
 pub loop-part-init : goal.loop-part-init
-loop-part-init c =
+loop-part-init g c =
     let workers = c.args.cutting.workers in
     let whole : part_start workers (length (vec_items c.args.parts)) ≡ 256 = ap (part_start workers) c.requires.count ∙ ends_whole 256 workers c.args.cutting.workers_fit.0 in
     let none : AreColumnsOf (calls_of c.args.index.now) 256 256 [] = record { each = λ j l. absurd (omega arith); all = λ place k p low high t. absurd (omega arith) } in
@@ -38,7 +38,7 @@ loop-part-init c =
     }
 
 pub returns : goal.returns
-returns c =
+returns g c =
     let workers = c.args.cutting.workers in
     let none : vec_items c.loop-part.parts ≡ [] = search rules in
     subst (λ z. AreColumnsOf (calls_of c.args.index.now) z 256 c.loop-part.all.items) (ap (λ l. part_start workers (length l)) none ∙ starts_at_zero 256 workers) c.loop-part.invariant.columns

@@ -12,7 +12,7 @@ use Rattle.snap_pairs.specs.inside.Reads.{IsGridFor}
 use Rattle.snap_pairs.proofs.reads.piece_tally.Goals as goal
 
 pub returns-in-None : goal.returns-in-None
-returns-in-None c =
+returns-in-None g c =
     let calls = calls_of c.args.index.now in
     let n = c.args.cutting.pieces in
     let p = c.args.piece in
@@ -26,7 +26,7 @@ returns-in-None c =
 
 pub returns-in_ok-read-in-Some : goal.returns-in_ok-read-in-Some
 unfolding tally_of
-returns-in_ok-read-in-Some c =
+returns-in_ok-read-in-Some g c =
     let calls = calls_of c.args.index.now in
     let n = c.args.cutting.pieces in
     let p = c.args.piece in

@@ -1,8 +1,9 @@
-use Rattle.std.proofs.Common.{◌≡◌, ◌<◌, ◌-◌, ◌∙◌, List, length, map, sym, ap, arith}
-use Rattle.std.specs.List.{range_with_len}
+use Rattle.std.proofs.Common.{◌≡◌, ◌<◌, ◌-◌, ◌∙◌, List, length, map, subst, sym, ap, arith}
+use Rattle.std.specs.List.{AllZip, range_with_len}
 use Rattle.std.proofs.lemmas.List.{length-map, get_or-map}
 use Rattle.std.proofs.lemmas.List.FromFn.{fill_by_all}
 use Rattle.std.proofs.lemmas.Slice.Zip.{AllZip-map}
+use Rattle.rayon.specs.Lists.{map_base, map_f}
 use Rattle.rayon.specs.Numbers.{nat_range}
 use Rattle.rayon.proofs.ListFacts.{IfOk-then}
 use Rattle.rayon.proofs.ToStd.{nat_range-All}
@@ -32,6 +33,8 @@ returns g c =
     let n = length (views_of calls) in
     let whole : n - 0 ≡ n = omega arith in
     IfOk-then c.collect.result _ _ c.collect.ensures (λ v h.
-    let chain = rw (c.with_min_len.ensures.base, c.map.ensures.base, c.map.ensures.f) at h.1 in
-    let places = chain.1 ∙ (λ i. nat_range (ends.0 i) ((ends.1 ∙ c.view_count-views.ensures) i)) ∙ ap (range_with_len 0) whole in
-    h.2 ∙ AllZip-map (λ place. shown_sum (view_in calls place)) chain.0 h.0 chain.2 ∙ ap (map (λ place. shown_sum (view_in calls place))) places ∙ sym (by_places calls))
+    let base = ap map_base c.with_min_len.ensures.base ∙ c.map.ensures.base in
+    let sum = ap map_f c.with_min_len.ensures.base ∙ c.map.ensures.f in
+    let places = h.1.1 ∙ (λ i. nat_range (base i).start (base i).end) ∙ (λ i. nat_range (ends.0 i) ((ends.1 ∙ c.view_count-views.ensures) i)) ∙ ap (range_with_len 0) whole in
+    let each = subst (λ f. AllZip (λ place value. value ≡ shown_sum (view_in (calls_of f.0.now) place)) h.1.0 h.0) sum h.1.2 in
+    h.2 ∙ AllZip-map (λ place. shown_sum (view_in calls place)) h.1.0 h.0 each ∙ ap (map (λ place. shown_sum (view_in calls place))) places ∙ sym (by_places calls))

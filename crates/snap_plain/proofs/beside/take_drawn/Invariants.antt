@@ -7,8 +7,8 @@ use Rattle.snap_plain.proofs.beside.take_drawn.Given as goal
 
 abbrev pub invariant-each : goal.invariant-each
 invariant-each g l = record {
-  taken : (rows : List Fields) → HasTaken l.fn.limit.events l.lines l.lines [] rows → HasTaken l.fn.limit.events l.lines l.behind l.history.events rows;
-  limit : l.history.limit ≡ l.fn.limit.events;
+  taken : (rows : List Fields) → HasTaken l.fn.limit l.lines l.lines [] rows → HasTaken l.fn.limit l.lines l.behind l.history.events rows;
+  limit : l.history.limit ≡ l.fn.limit;
   waiting : All (IsAhead l.lines) l.waiting.items;
   of_counter : IsClaimOf l.counter l.claim;
 }

@@ -15,4 +15,4 @@ pub returns : goal.returns
 returns c = λ lines rows h.
     let (is, m) = c.in_ok-take_lines.ensures.takes lines rows h in
     let none : c.in_ok-take_lines.field-0.now ≡ [] = nil_from_length _ (omega (arith, c.in_ok-take_lines.ensures.stop)) in
-    done c.args.limit.events rows (HasRows c.in_ok-take_lines.field-0.now) c.take_lines.new.history (length c.take_lines.new.history.events) m (no_line (drop (length c.take_lines.new.history.events) m.later) (rw none at m.left)) (c.in_ok-take_lines.ensures.limit ∙ c.requires)
+    done c.args.limit rows (HasRows c.in_ok-take_lines.field-0.now) c.take_lines.new.history (length c.take_lines.new.history.events) m (no_line (drop (length c.take_lines.new.history.events) m.later) (rw none at m.left)) (c.in_ok-take_lines.ensures.limit ∙ c.requires)

@@ -22,7 +22,7 @@ pub returns-then-line-stop-clause-takes : goal.returns-then-line-stop-clause-tak
 returns-then-line-stop-clause-takes c = λ lines rows begun.
     let (is, m) = c.each.invariant.taken lines rows begun in (
       rest_of_rest c.behind_newlines-line.result.now c.each.left.now lines c.behind_newlines-line.ensures.rest is,
-      left_as c.args.limit.events rows (HasRows c.each.left.now) (HasRows c.behind_newlines-line.result.now) c.each.history.events (length c.each.history.events) m (c.behind_newlines-line.ensures.same _ m.left),
+      left_as c.args.limit rows (HasRows c.each.left.now) (HasRows c.behind_newlines-line.result.now) c.each.history.events (length c.each.history.events) m (c.behind_newlines-line.ensures.same _ m.left),
     )
 
 pub returns-in_default-clause-takes : goal.returns-in_default-clause-takes
@@ -31,7 +31,7 @@ returns-in_default-clause-takes c = λ lines rows begun.
     let (at, m) = c.each.invariant.taken lines rows begun in
     let some : 0 < length c.behind_newlines-line.result.now = search (rules, arith) in
     let (row, others, is, short) = row_of_others _ 4 _ some (c.behind_newlines-line.ensures.begins (search rules)) c.in_default.ensures (c.behind_newlines-line.ensures.same _ m.left) in
-    stopped c.args.limit.events rows (HasRows c.each.left.now) c.each.history.events n m row others (refusals.Text (c.len.result + 2) faults.Fields) is (ap (λ i. i + 2) c.len.ensures.len, row_short c.args.limit.events c.each.history.events row short)
+    stopped c.args.limit rows (HasRows c.each.left.now) c.each.history.events n m row others (refusals.Text (c.len.result + 2) faults.Fields) is (ap (λ i. i + 2) c.len.ensures.len, row_short c.args.limit c.each.history.events row short)
 
 pub returns-in_err-take_fields-clause-takes : goal.returns-in_err-take_fields-clause-takes
 returns-in_err-take_fields-clause-takes c = λ lines.
@@ -41,11 +41,11 @@ returns-in_err-take_fields-clause-takes c = λ lines.
     rw (p.1, p.2) (λ rows begun.
     let (at, m) = c.each.invariant.taken lines rows begun in
     let (others, is, left) = row_of_fields _ _ _ _ some (c.behind_newlines-line.ensures.begins (search rules)) c.in-Some.ensures (c.behind_newlines-line.ensures.same _ m.left) in
-    stopped c.args.limit.events rows (HasRows c.each.left.now) c.each.history.events n m _ others c.in_err-take_fields.field-0.0 is (rw (c.each.invariant.limit, c.len.ensures.len) at c.in_err-take_fields.ensures.takes))
+    stopped c.args.limit rows (HasRows c.each.left.now) c.each.history.events n m _ others c.in_err-take_fields.field-0.0 is (rw (c.each.invariant.limit, c.len.ensures.len) at c.in_err-take_fields.ensures.takes))
 
 pub each-preserved : goal.each-preserved
 each-preserved c =
-    let limit = c.args.limit.events in
+    let limit = c.args.limit in
     let taken = rw c.each.invariant.limit at c.in_ok-take_fields.ensures.takes in
     let (fine, x, is, longer) = taken in
     record {

@@ -23,7 +23,7 @@ loop-piece-preserved g c =
     record {
       of_counter = drawn.same.0;
       room = omega (arith, i.room, longer, c.send_piece.ensures.room);
-      sent = one_read c.args.lines.now c.args.limit.events c.args.pieces.now (pieces_of old) (pieces_of c.draw.new.claim) (sent c.loop-piece.inlet) (sent c.send_piece.new.inlet) p _ i.sent pieces c.send_piece.ensures.sent
+      sent = one_read c.args.lines.now c.args.limit c.args.pieces.now (pieces_of old) (pieces_of c.draw.new.claim) (sent c.loop-piece.inlet) (sent c.send_piece.new.inlet) p _ i.sent pieces c.send_piece.ensures.sent
           (slice_get-get_or c.args.pieces.now p _ (omega (arith, drawn.piece.0, c.requires.counter)));
     }
 

@@ -8,7 +8,7 @@ abbrev pub invariant-loop-piece : goal.invariant-loop-piece
 invariant-loop-piece g l = record {
   of_counter : IsClaimOf l.counter l.claim;
   room : l.counter.pieces ≤ known_free l.inlet + length l.claim.drawn;
-  sent : AreRead l.lines l.limit.events l.pieces (pieces_of l.claim) (sent l.inlet);
+  sent : AreRead l.lines l.limit l.pieces (pieces_of l.claim) (sent l.inlet);
 }
 
 abbrev pub decreases-loop-piece : goal.decreases-loop-piece

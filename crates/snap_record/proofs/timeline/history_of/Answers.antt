@@ -4,7 +4,6 @@ use Rattle.std.proofs.lemmas.List.{length-map}
 use Rattle.std.specs.Vec.Iter.{into_iter_items}
 use Rattle.snap_core.specs.declared.history.EventRefusal.{EventRefusal}
 use Rattle.snap_core.specs.declared.history.EventRefusal.TheVariants.{Memory}
-use Rattle.snap_core.specs.Refusals.{refusal_of}
 use Rattle.snap_board.specs.History.{events_in}
 use Rattle.snap_board.proofs.Stamps.{Stamp}
 use Rattle.snap_record.proofs.Pushing.{accepted}
@@ -18,8 +17,8 @@ prove-unreachable-requires c =
     let i = c.each.invariant in
     let s = c.in-Some.ensures.steps in
     let size = length-map c.args.events.items (λ (x : Stamp). x.1) in
-    let taken = accepted c.args.limit.events c.each.history.events c.in-Some.event (events_in (into_iter_items c.next.new.self)) (events_in c.args.events.items)
-    (ap (λ (es : List Stamp). c.each.history.events ++ events_in es) (sym s.0) ∙ i.whole) c.requires.history (omega (arith, c.requires.short, size)) in
-    ⊎_elim (λ a. none_some c.in-Err.refusal (sym taken ∙ sym (ap (λ n. refusal_of n c.each.history.events c.in-Some.event) i.limit) ∙ a))
+    let taken = accepted c.each.history.limit c.each.history.events c.in-Some.event (events_in (into_iter_items c.next.new.self)) (events_in c.args.events.items)
+    (ap (λ (es : List Stamp). c.each.history.events ++ events_in es) (sym s.0) ∙ i.whole) i.writers c.requires.history (omega (arith, c.requires.short, size, i.limit)) in
+    ⊎_elim (λ a. none_some c.in-Err.refusal (sym taken ∙ a))
     (λ m. false≢true (subst (λ (r : EventRefusal). false ≡ denote.Enum.Bare.sameb Rattle.snap_core.specs.contracts.history.EventRefusal.the_type r Memory) m c.if-prove.ensures))
     c.in-Err.ensures.reason

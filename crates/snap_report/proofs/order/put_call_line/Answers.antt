@@ -9,13 +9,13 @@ use Rattle.snap_report.proofs.Pieces.{same_text}
 use Rattle.snap_report.proofs.order.put_call_line.Goals as goal
 
 pub shown-requires-clause-view : goal.shown-requires-clause-view
-shown-requires-clause-view c =
+shown-requires-clause-view g c =
     let es = c.args.index.now in
     let is = op_is es c.args.number c.in-Some.call.now c.requires.below c.in-Some.ensures in
     views_then (call_numbered (calls_of es) c.args.number) (sym c.in-View.is ∙ ap (λ (b : Call). b.op) is) c.requires.kind
 
 pub returns-in-Update : goal.returns-in-Update
-returns-in-Update c =
+returns-in-Update g c =
     let out = c.args.out.now.items in
     let es = c.args.index.now in
     let n = c.args.number in
@@ -27,7 +27,7 @@ returns-in-Update c =
     c.put_update_line.ensures
 
 pub returns-in-View : goal.returns-in-View
-returns-in-View c =
+returns-in-View g c =
     let out = c.args.out.now.items in
     let es = c.args.index.now in
     let n = c.args.number in

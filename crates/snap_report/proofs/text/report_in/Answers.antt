@@ -10,7 +10,7 @@ use Rattle.snap_report.proofs.text.report_in.Goals as goal
 use Rattle.snap_report.proofs.text.report_in.Goals.{in-Some+in_ok-put_order-in-Some, in-None+in_ok-put_faults-in-None}
 
 pub returns : goal.returns
-returns c =
+returns g c =
     let es = c.args.index.now in
     let t = c.args.tally.now in
     let calls = calls_of es in

@@ -3,6 +3,7 @@ use Rattle.std.specs.List.{range_with_len}
 use Rattle.std.proofs.lemmas.List.FromFn.{length-range_with_len}
 use Rattle.std.proofs.lemmas.Result.{IfOk-weaker}
 use Rattle.snap_core.specs.Calls.{call_numbered, calls_of}
+use Rattle.snap_theory.proofs.OrderLaws.{in_order_by}
 use Rattle.snap_runs.specs.Mapping.{map_text}
 use Rattle.snap_runs.proofs.Mapping.{whole_below, whole_sources}
 use Rattle.snap_runs.proofs.map.whole_map.Goals as goal
@@ -29,10 +30,10 @@ returns c =
     let all = c.deref-2.ensures.value ∙ c.in_ok-sources.ensures ∙ ap (range_with_len 0) c.call_count.ensures in
     let mine = c.deref.ensures.value ∙ c.in_ok-mine.ensures ∙ ap (range_with_len 2) (c.len.ensures.len ∙ ap length c.requires.left) in
     let cut = c.in_ok-cut.ensures ∙ c.requires.left in
-    IfOk-weaker c.table_of.result _ _ (λ out e. λ status has. record {
+    IfOk-weaker c.table_of.result _ _ (λ out e. λ writers status history has. let atomic = (in_order_by writers es history).0 c.requires.atomic in record {
       left = es;
       sources = sources;
-      cut = record { answers = has; atomic = λ _. refl; not_atomic = λ no. absurd (no c.requires.atomic) };
-      are = whole_sources es es numbers c.requires.atomic refl all;
+      cut = record { answers = has; atomic = λ _. refl; not_atomic = λ no. absurd (no atomic) };
+      are = whole_sources writers es es numbers atomic refl all;
       writes = e ∙ ap (λ mine. map_text mine records (calls_of c.in_ok-cut.cut) sources) mine ∙ ap (λ left. map_text (range_with_len 2 (length es)) records (calls_of left) sources) cut;
     }) c.table_of.ensures

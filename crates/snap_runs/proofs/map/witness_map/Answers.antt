@@ -2,6 +2,7 @@ use Rattle.std.proofs.Common.{◌∙◌, ap, length, map, sym}
 use Rattle.std.specs.List.{range_with_len}
 use Rattle.std.proofs.lemmas.List.FromFn.{length-range_with_len}
 use Rattle.std.proofs.lemmas.Result.{IfOk-weaker}
+use Rattle.snap_theory.proofs.OrderLaws.{in_order_by}
 use Rattle.snap_core.specs.Calls.{call_numbered, calls_of}
 use Rattle.snap_runs.specs.Mapping.{map_text}
 use Rattle.snap_runs.proofs.Mapping.{witness_below, witness_count, witness_sources}
@@ -26,10 +27,10 @@ returns c =
     let numbers = c.args.numbers.now in
     let sources = map (call_numbered (calls_of es)) numbers in
     let mine = c.deref.ensures.value ∙ c.in_ok-mine.ensures ∙ ap (range_with_len 2) c.len.ensures.len in
-    IfOk-weaker c.table_of.result _ _ (λ out e. λ status has. record {
+    IfOk-weaker c.table_of.result _ _ (λ out e. λ writers status history has. record {
       left = left;
       sources = sources;
-      cut = record { answers = has; atomic = λ a. absurd (c.requires.not_atomic a); not_atomic = λ _. c.requires.witness };
-      are = witness_sources es left numbers c.requires.numbers;
+      cut = record { answers = has; atomic = λ a. absurd (c.requires.not_atomic ((in_order_by writers es history).1 a)); not_atomic = λ _. c.requires.witness };
+      are = witness_sources writers es left numbers c.requires.numbers;
       writes = e ∙ ap (λ mine. map_text mine records (calls_of c.in_ok-cut.cut) sources) mine ∙ ap (λ z. map_text (range_with_len 2 (length left)) records (calls_of z) sources) c.in_ok-cut.ensures;
     }) c.table_of.ensures

@@ -13,4 +13,4 @@ returns-then-judge-clause-wrote g c =
 
 pub returns-then-judge-clause-atomic : goal.returns-then-judge-clause-atomic
 returns-then-judge-clause-atomic g c =
-    λ _ none. judged_atomic c.in_ok-history.history.events (c.in_ok-history.ensures.history.atomic none) (g.W.Write.contents (inner_of c.args.writer.now)) (g.W.Write.contents (inner_of c.write_report.new.writer)) c.write_report.result c.write_report.ensures.wrote
+    λ _ none. judged_atomic c.in_ok-history.history.events c.in_ok-history.ensures.history.kept.history (c.in_ok-history.ensures.history.atomic none) (g.W.Write.contents (inner_of c.args.writer.now)) (g.W.Write.contents (inner_of c.write_report.new.writer)) c.write_report.result c.write_report.ensures.wrote

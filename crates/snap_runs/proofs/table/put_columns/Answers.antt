@@ -15,14 +15,14 @@ pub bounds-records-call : goal.bounds-records-call
 bounds-records-call c =
     let es = c.args.index.now in
     let is = op_is es c.args.number c.in-Some.call.now c.requires.below c.in-Some.ensures in
-    let within = (call_is_within es c.event_count-events.ensures.kept.history c.args.number c.requires.below).begun in
+    let within = (call_is_within es c.event_count-events.ensures.ordered.history c.args.number c.requires.below).begun in
     omega (arith, within, ap (λ (b : Call). b.begun) is, c.requires.each)
 
 pub put_end-requires : goal.put_end-requires
 put_end-requires c =
     let es = c.args.index.now in
     let is = op_is es c.args.number c.in-Some.call.now c.requires.below c.in-Some.ensures in
-    let within = (call_is_within es c.event_count-events.ensures.kept.history c.args.number c.requires.below).ended in
+    let within = (call_is_within es c.event_count-events.ensures.ordered.history c.args.number c.requires.below).ended in
     λ place e. let few = within place (sym (ap (λ (b : Call). b.ended) is) ∙ e) in omega (arith, few, c.requires.each)
 
 pub returns : goal.returns

@@ -12,12 +12,12 @@ fits_more : (n : ℕ) → n ≤ 4294967296 → Fits w64 (n + 1)
 fits_more n l = search (rules, l)
 
 pub overflow_add-count : goal.overflow_add-count
-overflow_add-count c =
+overflow_add-count g c =
     let left = drop c.loop-number.number (calls_of c.args.index.now) in
     fits_more c.loop-number.count (omega (arith, c.loop-number.invariant.count, distinct_few (map process_in left), length-map left process_in, length-drop c.loop-number.number (calls_of c.args.index.now), c.call_count-number.ensures, c.call_count-number.type_inv))
 
 pub loop-number-preserved-then-not-index : goal.loop-number-preserved-then-not-index
-loop-number-preserved-then-not-index c =
+loop-number-preserved-then-not-index g c =
     let calls = calls_of c.args.index.now in
     let n = c.loop-number.number in
     let ns = map process_in (drop n calls) in
@@ -35,7 +35,7 @@ loop-number-preserved-then-not-index c =
     }
 
 pub loop-number-preserved : goal.loop-number-preserved
-loop-number-preserved c =
+loop-number-preserved g c =
     let calls = calls_of c.args.index.now in
     let n = c.loop-number.number in
     let ns = map process_in (drop n calls) in
@@ -54,6 +54,6 @@ loop-number-preserved c =
 
 pub returns : goal.returns
 unfolding process_count
-returns c =
+returns g c =
     let zero : c.loop-number.number ≡ 0 = omega (arith, c.loop-number-test.false) in
     c.loop-number.invariant.count ∙ ap (λ n. distinct_count (map process_in (drop n (calls_of c.args.index.now)))) zero

@@ -6,7 +6,7 @@ use Rattle.snap_stats.proofs.processes.process_count.Given as goal
 
 -- the processes of the calls from a number on
 abbrev pub invariant-loop-number : goal.invariant-loop-number
-invariant-loop-number l = record {
+invariant-loop-number g l = record {
   within : l.number ≤ length (calls_of l.index);
   size : 65536 ≤ length l.seen.items;
   seen : AreSeen (map process_in (drop l.number (calls_of l.index))) l.seen.items;
@@ -14,4 +14,4 @@ invariant-loop-number l = record {
 }
 
 abbrev pub decreases-loop-number : goal.decreases-loop-number
-decreases-loop-number l = l.number
+decreases-loop-number g l = l.number

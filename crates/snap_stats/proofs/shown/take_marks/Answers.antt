@@ -9,7 +9,7 @@ use Rattle.snap_stats.proofs.shown.take_marks.Goals as goal
 use Rattle.snap_stats.proofs.shown.take_marks.Goals.{in-Some, in_default}
 
 pub bounds-marks-number : goal.bounds-marks-number
-bounds-marks-number c =
+bounds-marks-number g c =
     let es = c.args.index.now in
     let m = mapped_some number_of (find _ (calls_of es)) c.in-Some.number (sym c.in-Some.ensures) in
     let update = update_found es _ _ m.from m.is in
@@ -17,9 +17,9 @@ bounds-marks-number c =
     omega (arith, within, c.requires, c.loop-entry.auto.marks)
 
 pub loop-entry-preserved : goal.loop-entry-preserved
-loop-entry-preserved c =
+loop-entry-preserved g c =
     let es = c.args.index.now in
-    let h = c.event_count-events.ensures.kept.history in
+    let h = c.event_count-events.ensures.ordered.history in
     elim c.match-update_call.branch [
       | in-Some w ↦
           let m = mapped_some number_of (find _ (calls_of es)) w.in-Some.number (sym w.in-Some.ensures) in

@@ -4,4 +4,4 @@ use Rattle.snap_stats.specs.inside.Marks.{AreTaken}
 use Rattle.snap_stats.proofs.shown.take_marks.Given as goal
 
 abbrev pub invariant-loop-entry : goal.invariant-loop-entry
-invariant-loop-entry l = AreTaken (calls_of l.index) (take l.entry-index l.entries) l.fn.marks l.marks
+invariant-loop-entry g l = AreTaken (calls_of l.index) (take l.entry-index l.entries) l.fn.marks l.marks

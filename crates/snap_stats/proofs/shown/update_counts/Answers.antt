@@ -7,7 +7,7 @@ use Rattle.snap_stats.proofs.Marks.{unshown_is}
 use Rattle.snap_stats.proofs.shown.update_counts.Goals as goal
 
 pub returns-clause-unshown : goal.returns-clause-unshown
-returns-clause-unshown c =
+returns-clause-unshown g c =
     let calls = calls_of c.args.index.now in
     let items = c.in_ok-marks.marks.items in
     let new = c.take_shown.new.marks in

@@ -13,7 +13,7 @@ use Rattle.snap_stats.proofs.shown.update_marks.Goals.{in-Update, in_default-mat
 
 pub loop-number-preserved : goal.loop-number-preserved
 unfolding is_update
-loop-number-preserved c =
+loop-number-preserved g c =
     let calls = calls_of c.args.index.now in
     let n = c.loop-number.number in
     let call = call_numbered calls n in

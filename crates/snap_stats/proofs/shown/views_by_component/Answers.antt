@@ -8,16 +8,16 @@ use Rattle.snap_stats.proofs.Marks.{counts_few, counts_more, view_shown}
 use Rattle.snap_stats.proofs.shown.views_by_component.Goals as goal
 
 pub count_components-requires-clause-few : goal.count_components-requires-clause-few
-count_components-requires-clause-few c =
+count_components-requires-clause-few g c =
     let es = c.args.index.now in
     let views = views_of (calls_of es) in
     let place = c.loop-place.place in
     let within : place < length views = omega (arith, c.loop-place-test.true, c.view_count-place-end.ensures) in
-    let few : length (take place views) ≤ event_cap = omega (arith, length-take-le place views (omega (arith, within)), within, view_count_within (calls_of es), call_count_within es, c.event_count-events.ensures.kept.short) in
+    let few : length (take place views) ≤ event_cap = omega (arith, length-take-le place views (omega (arith, within)), within, view_count_within (calls_of es), call_count_within es, c.event_count-events.ensures.ordered.short) in
     subst (All (λ n. n ≤ event_cap)) (sym c.deref_mut.ensures.value) (counts_few (take place views) c.loop-place.counts.items event_cap c.loop-place.invariant.size few c.loop-place.invariant.counted)
 
 pub loop-place-preserved : goal.loop-place-preserved
-loop-place-preserved c =
+loop-place-preserved g c =
     let views = views_of (calls_of c.args.index.now) in
     let place = c.loop-place.place in
     let items = c.loop-place.counts.items in

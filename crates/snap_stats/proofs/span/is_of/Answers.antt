@@ -11,19 +11,19 @@ use Rattle.snap_stats.proofs.span.is_of.Goals as goal
 
 pub returns-in-Update-matches : goal.returns-in-Update-matches
 unfolding is_update
-returns-in-Update-matches c =
+returns-in-Update-matches g c =
     let call = call_numbered (calls_of c.args.index.now) c.args.number in
     sym (ap (λ k. is_of k call) c.in-Update.is ∙ ap is_writing (update_from call.operation c.in-Update-matches.field-0 (sym c.requires.same ∙ c.in-Update-matches.is)))
 
 pub returns-in_default : goal.returns-in_default
 unfolding is_update
-returns-in_default c =
+returns-in_default g c =
     let call = call_numbered (calls_of c.args.index.now) c.args.number in
     writing_not call.operation c.args.op c.requires.same c.in_default.not-Update ∙ sym (ap (λ k. is_of k call) c.in-Update.is)
 
 pub returns-in-View : goal.returns-in-View
 unfolding is_view
-returns-in-View c =
+returns-in-View g c =
     let calls = calls_of c.args.index.now in
     let call = call_numbered calls c.args.number in
     c.is_some.ensures ∙ some_copied c.answer.result ∙ ap is_some (c.answer.ensures ∙ ap (option_and_then answer_of) (call_within calls c.args.number c.requires.below))

@@ -8,7 +8,7 @@ use Rattle.snap_stats.proofs.span.spans_of.Goals as goal
 use Rattle.snap_stats.proofs.span.spans_of.Goals.{then-is_of+in_ok-push, else-is_of}
 
 pub loop-number-preserved : goal.loop-number-preserved
-loop-number-preserved c =
+loop-number-preserved g c =
     let calls = calls_of c.args.index.now in
     let n = c.loop-number.number in
     let within : n < length calls = omega (arith, c.loop-number-test.true, c.call_count-number-end.ensures) in

@@ -7,7 +7,7 @@ use Rattle.snap_stats.proofs.stats.components_in.Goals as goal
 use Rattle.snap_stats.proofs.stats.components_in.Goals.{then-updates-gt0+in_ok-push, else-updates-gt0}
 
 pub loop-k-preserved : goal.loop-k-preserved
-loop-k-preserved c =
+loop-k-preserved g c =
     let calls = calls_of c.args.index.now in
     let k = c.loop-k.k in
     elim c.if-updates-gt0.branch [
@@ -25,4 +25,4 @@ loop-k-preserved c =
     ]
 
 pub returns : goal.returns
-returns c = c.loop-k.invariant ∙ all_below (calls_of c.args.index.now) c.loop-k.k (omega (arith, c.loop-k-test.false, c.loop-k.auto.k-end))
+returns g c = c.loop-k.invariant ∙ all_below (calls_of c.args.index.now) c.loop-k.k (omega (arith, c.loop-k-test.false, c.loop-k.auto.k-end))

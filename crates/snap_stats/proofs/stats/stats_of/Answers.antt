@@ -5,7 +5,7 @@ use Rattle.snap_stats.proofs.Components.{component_total}
 use Rattle.snap_stats.proofs.stats.stats_of.Goals as goal
 
 pub returns-clause-counts : goal.returns-clause-counts
-returns-clause-counts c =
+returns-clause-counts g c =
     let calls = calls_of c.args.index.now in
     let events = c.event_count.ensures.count in
     let all = c.call_count.ensures in

@@ -11,7 +11,7 @@ use Rattle.snap_tally.proofs.columns.columns_between.Goals as goal
 use Rattle.snap_tally.proofs.columns.columns_between.Goals.{then-not-is_empty+in_ok-new+in_ok-push, else-not-is_empty}
 
 pub loop-k-init : goal.loop-k-init
-loop-k-init c = record {
+loop-k-init g c = record {
   size = c.in_ok-table.ensures.rows.size;
   columns = subst (AreColumnsOf (calls_of c.args.index.now) c.args.from c.args.from) (sym c.new-columns.ensures.items) (record { each = λ j l. absurd (omega arith); all = λ place k b f l. absurd (omega arith) });
   left = λ j l b. row_of (calls_of c.args.index.now) c.args.from c.args.to c.in_ok-table.table c.in_ok-table.ensures j l b (omega (arith, b, c.requires.within));
@@ -22,20 +22,20 @@ taken : (calls : List Call) (k : ℕ) (row numbers : List ℕ) → numbers ≡ r
 taken calls k row numbers e h = subst (IsRowOf calls k) (sym e) h
 
 pub new-requires-clause-few : goal.new-requires-clause-few
-new-requires-clause-few c =
+new-requires-clause-few g c =
     let calls = calls_of c.args.index.now in
     let row = taken calls c.loop-k.k _ c.take-numbers.result.items c.take-numbers.ensures.taken (c.loop-k.invariant.left c.loop-k.k (omega arith) (omega (arith, c.loop-k-test.true))) in
     let column = row.some (λ e. let none : length c.take-numbers.result.items ≡ 0 = ap length e in eqb-false _ _ (sym c.is_empty.ensures ∙ c.if-not-is_empty.true) (omega (arith, c.take-numbers.result.ok, none))) in
-    omega (arith, column.count, few_views c.args.index.now c.event_count-events.ensures.kept)
+    omega (arith, column.count, few_views c.args.index.now c.event_count-events.ensures.ordered)
 
 pub new-requires-clause-limit : goal.new-requires-clause-limit
-new-requires-clause-limit c = omega (arith, c.min-limit.ensures)
+new-requires-clause-limit g c = omega (arith, c.min-limit.ensures)
 
 left_more : (calls : List Call) (k to : ℕ) (table : List (List ℕ)) → ((j : ℕ) → k ≤ j → j < to → IsRowOf calls j (get_or table j [])) → (j : ℕ) → k + 1 ≤ j → j < to → IsRowOf calls j (get_or (set table k []) j [])
 left_more calls k to table h j l b = subst (IsRowOf calls j) (sym (get_or-set_other table k j [] [] (λ e. absurd (omega (arith, e, l))))) (h j (omega (arith, l)) b)
 
 pub loop-k-preserved : goal.loop-k-preserved
-loop-k-preserved c =
+loop-k-preserved g c =
     let calls = calls_of c.args.index.now in
     let k = c.loop-k.k in
     let table = c.loop-k.table in
@@ -57,6 +57,6 @@ loop-k-preserved c =
     }
 
 pub returns : goal.returns
-returns c =
+returns g c =
     let whole : c.loop-k.k ≡ c.args.to = omega (arith, c.loop-k-test.false, c.loop-k.auto.k-end) in
     subst (λ z. AreColumnsOf (calls_of c.args.index.now) c.args.from z c.loop-k.columns.items) whole c.loop-k.invariant.columns

@@ -8,16 +8,16 @@ use Rattle.snap_tally.proofs.NumberTables.{nothing_filled, view_filled}
 use Rattle.snap_tally.proofs.columns.numbers_between.Goals as goal
 
 pub entries_between-entries-requires-clause-entries : goal.entries_between-entries-requires-clause-entries
-entries_between-entries-requires-clause-entries c = subst AreEntries (sym c.view_at.ensures.entries) c.view_at.ensures.shape
+entries_between-entries-requires-clause-entries g c = subst AreEntries (sym c.view_at.ensures.entries) c.view_at.ensures.shape
 
 pub loop-place-init : goal.loop-place-init
-loop-place-init c = subst (AreFilled (calls_of c.args.index.now) c.args.from c.args.to 0) (sym c.in_ok-table.ensures) (nothing_filled (calls_of c.args.index.now) c.args.from c.args.to)
+loop-place-init g c = subst (AreFilled (calls_of c.args.index.now) c.args.from c.args.to 0) (sym c.in_ok-table.ensures) (nothing_filled (calls_of c.args.index.now) c.args.from c.args.to)
 
 pub put_view-requires-clause-rows : goal.put_view-requires-clause-rows
-put_view-requires-clause-rows c = subst (λ n. HasRows n c.loop-place.table) (sym c.view_count-count.ensures) c.loop-place.invariant.rows
+put_view-requires-clause-rows g c = subst (λ n. HasRows n c.loop-place.table) (sym c.view_count-count.ensures) c.loop-place.invariant.rows
 
 pub loop-place-preserved : goal.loop-place-preserved
-loop-place-preserved c =
+loop-place-preserved g c =
     let calls = calls_of c.args.index.now in
     let place = c.loop-place.place in
     let entries = c.entries_between-entries.result.now in
@@ -27,7 +27,7 @@ loop-place-preserved c =
     view_filled calls c.args.from c.args.to place c.loop-place.table c.put_view.new.self entries numbers c.loop-place.invariant put
 
 pub returns : goal.returns
-returns c =
+returns g c =
     let n = length (views_of (calls_of c.args.index.now)) in
     let whole : c.loop-place.place ≡ n = omega (arith, c.loop-place-test.false, c.loop-place.auto.place-end, c.view_count-place-end.ensures) in
     subst (λ z. AreFilled (calls_of c.args.index.now) c.args.from c.args.to z c.loop-place.table) whole c.loop-place.invariant

@@ -14,10 +14,10 @@ places_count : (calls : List Call) (chain : ViewChain) → IsViewChain calls cha
 places_count calls chain h = (is_climb calls chain h).count ∙ sums_count calls chain.sums.items h.sums
 
 pub index-requires : goal.index-requires
-index-requires c = omega (arith, places_count (calls_of c.args.index.now) c.args.chain.now c.requires.chain, c.args.chain.now.places.ok, c.loop-at-test.true, c.view_count-at-end.ensures)
+index-requires g c = omega (arith, places_count (calls_of c.args.index.now) c.args.chain.now c.requires.chain, c.args.chain.now.places.ok, c.loop-at-test.true, c.view_count-at-end.ensures)
 
 pub index-sum-requires : goal.index-sum-requires
-index-sum-requires c =
+index-sum-requires g c =
     let chain = c.args.chain.now in
     let climb = is_climb (calls_of c.args.index.now) chain c.requires.chain in
     let here : c.loop-at.at < length chain.places.items = omega (arith, places_count (calls_of c.args.index.now) chain c.requires.chain, c.loop-at-test.true, c.view_count-at-end.ensures) in
@@ -25,7 +25,7 @@ index-sum-requires c =
     omega (arith, place, climb.within c.loop-at.at here, chain.sums.ok)
 
 pub index_mut-requires : goal.index_mut-requires
-index_mut-requires c =
+index_mut-requires g c =
     let chain = c.args.chain.now in
     let climb = is_climb (calls_of c.args.index.now) chain c.requires.chain in
     let here : c.loop-at.at < length chain.places.items = omega (arith, places_count (calls_of c.args.index.now) chain c.requires.chain, c.loop-at-test.true, c.view_count-at-end.ensures) in
@@ -33,7 +33,7 @@ index_mut-requires c =
     omega (arith, place, climb.within c.loop-at.at here, c.loop-at.invariant.size, c.loop-at.ranks.ok)
 
 pub loop-at-preserved : goal.loop-at-preserved
-loop-at-preserved c =
+loop-at-preserved g c =
     let chain = c.args.chain.now in
     let at = c.loop-at.at in
     let places = chain.places.items in
@@ -53,7 +53,7 @@ loop-at-preserved c =
     (next_ranked sums places ranks at c.loop-at.rank c.loop-at.last c.if-last-sum.rank c.if-last-sum.last climb here c.loop-at.invariant next)
 
 pub returns : goal.returns
-returns c =
+returns g c =
     let chain = c.args.chain.now in
     let climb = is_climb (calls_of c.args.index.now) chain c.requires.chain in
     all_ranked chain.sums.items chain.places.items c.loop-at.ranks.items c.loop-at.at c.loop-at.rank c.loop-at.last climb

@@ -5,7 +5,7 @@ use Rattle.snap_tally.proofs.Grids.{placed}
 use Rattle.snap_tally.proofs.view_grid.places_of.Goals as goal
 
 pub returns : goal.returns
-returns c =
+returns g c =
     let es = c.args.index.now in
     let n = length (views_of (calls_of es)) in
     let size : c.loop-place.place ≡ n = omega (arith, c.loop-place-test.false, c.loop-place.auto.place-end, c.view_count-place-end.ensures) in

@@ -1,4 +1,4 @@
-use Rattle.snap_theory.proofs.Ordered.{history_is_ordered}
+use Rattle.snap_core.proofs.Ordered.{history_is_ordered}
 use Rattle.snap_theory.proofs.OrderLaws.{legal_orders_rise, atomic_is_in_order}
 use Rattle.snap_theory.proofs.version_laws.histories_are_ordered.Goals as goal
 

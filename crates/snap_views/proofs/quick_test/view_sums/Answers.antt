@@ -6,7 +6,7 @@ use Rattle.snap_views.specs.Seen.{view_in}
 use Rattle.snap_views.proofs.quick_test.view_sums.Goals as goal
 
 pub loop-place-preserved : goal.loop-place-preserved
-loop-place-preserved c =
+loop-place-preserved g c =
     let views = views_of (calls_of c.args.index.now) in
     let place = c.loop-place.place in
     let within : place < length views = (let l = c.loop-place-test.true in let e = c.view_count-place-end.ensures in omega (arith, l, e)) in
@@ -17,4 +17,4 @@ loop-place-preserved c =
     ∙ sym (ap (map shown_sum) (take_more views place nobody within))
 
 pub returns : goal.returns
-returns c = c.loop-place.invariant ∙ ap (map shown_sum) (take_all c.loop-place.place (views_of (calls_of c.args.index.now)) (let f = c.loop-place-test.false in let e = c.view_count-place-end.ensures in omega (arith, f, e)))
+returns g c = c.loop-place.invariant ∙ ap (map shown_sum) (take_all c.loop-place.place (views_of (calls_of c.args.index.now)) (let f = c.loop-place-test.false in let e = c.view_count-place-end.ensures in omega (arith, f, e)))

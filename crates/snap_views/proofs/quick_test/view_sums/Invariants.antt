@@ -4,4 +4,4 @@ use Rattle.snap_views.specs.Quick.{shown_sum}
 use Rattle.snap_views.proofs.quick_test.view_sums.Given as goal
 
 abbrev pub invariant-loop-place : goal.invariant-loop-place
-invariant-loop-place l = l.sums.items ≡ map shown_sum (take l.place (views_of (calls_of l.index)))
+invariant-loop-place g l = l.sums.items ≡ map shown_sum (take l.place (views_of (calls_of l.index)))

@@ -9,7 +9,7 @@ use Rattle.snap_views.proofs.Viewed.{view_at_number}
 use Rattle.snap_views.proofs.seen.view_at.Goals as goal
 
 pub unreachable-requires-in_default-call : goal.unreachable-requires-in_default-call
-unreachable-requires-in_default-call c =
+unreachable-requires-in_default-call g c =
     let es = c.args.index.now in
     let there = slice_get-get_or (views_of (calls_of es)) c.args.place nobody c.requires in
     let number : Some c.in-Some.call_number ≡ Some (view_in (calls_of es) c.args.place).number = sym c.in-Some.is ∙ c.view_call.ensures ∙ ap (option_map number_of) there in
@@ -19,13 +19,13 @@ unreachable-requires-in_default-call c =
     cc
 
 pub unreachable-requires-in_default-view : goal.unreachable-requires-in_default-view
-unreachable-requires-in_default-view c =
+unreachable-requires-in_default-view g c =
     let there = slice_get-get_or (views_of (calls_of c.args.index.now)) c.args.place nobody c.requires in
     let gone = sym (ap option_copied c.in_default-view.is) ∙ c.view.ensures ∙ ap (option_map entries_shown) there in
     cc
 
 pub returns : goal.returns
-returns c =
+returns g c =
     let es = c.args.index.now in
     let r = view_in (calls_of es) c.args.place in
     let there = slice_get-get_or (views_of (calls_of es)) c.args.place nobody c.requires in

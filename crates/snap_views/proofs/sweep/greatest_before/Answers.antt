@@ -6,7 +6,7 @@ use Rattle.snap_views.proofs.Ordering.{place_swept}
 use Rattle.snap_views.proofs.sweep.greatest_before.Goals as goal
 
 pub loop-place-preserved : goal.loop-place-preserved
-loop-place-preserved c =
+loop-place-preserved g c =
     let calls = calls_of c.args.index.now in
     let at = c.loop-place.place in
     let within : at < length c.loop-place.greatest.items = omega (arith, c.loop-place-test.true, c.len-place-end.ensures, c.in_ok-greatest.greatest.ok, c.in_ok-greatest.ensures.size, c.loop-place.invariant.size) in
@@ -18,7 +18,7 @@ loop-place-preserved c =
     }
 
 pub returns-clause-greatest : goal.returns-clause-greatest
-returns-clause-greatest c =
+returns-clause-greatest g c =
     let calls = calls_of c.args.index.now in
     let all : c.loop-place.place ≡ length c.loop-place.greatest.items = omega (arith, c.loop-place-test.false, c.loop-place.auto.place-end, c.len-place-end.ensures, c.in_ok-greatest.greatest.ok, c.in_ok-greatest.ensures.size, c.loop-place.invariant.size) in
     subst (λ z. IsSwept calls (length (views_of calls)) z c.loop-place.greatest.items) all c.loop-place.invariant.sums

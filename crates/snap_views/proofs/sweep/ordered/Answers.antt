@@ -10,32 +10,32 @@ use Rattle.snap_views.proofs.Ordering.{NoneAbove, view_places, none_above, some_
 use Rattle.snap_views.proofs.sweep.ordered.Goals as goal
 
 pub index-requires : goal.index-requires
-index-requires c =
+index-requires g c =
     let es = c.args.index.now in
     let r = view_in (calls_of es) c.loop-place.place in
     let within : c.loop-place.place < length (views_of (calls_of es)) = omega (arith, c.loop-place-test.true, c.view_count-place-end.ensures) in
-    let at = view_places es c.event_count-events.ensures.kept r (view_is (calls_of es) c.loop-place.place within) in
+    let at = view_places es c.event_count-events.ensures.ordered r (view_is (calls_of es) c.loop-place.place within) in
     let begun : c.view_at-begun.result.call.begun ≡ r.begun = ap (λ (z : IndexedCall). z.begun) c.view_at-begun.ensures.call in
     omega (arith, begun, at.begins, at.within, c.in_ok-greatest.greatest.ok, c.in_ok-greatest.ensures.size)
 
 pub returns-then-sums-place : goal.returns-then-sums-place
-returns-then-sums-place c =
+returns-then-sums-place g c =
     let es = c.args.index.now in
     let r = view_in (calls_of es) c.loop-place.place in
     let within : c.loop-place.place < length (views_of (calls_of es)) = omega (arith, c.loop-place-test.true, c.view_count-place-end.ensures) in
     let sum = sum_in (calls_of es) c.args.sums.now c.loop-place.place 0 c.requires within in
     let begun : c.view_at-begun.result.call.begun ≡ r.begun = ap (λ (z : IndexedCall). z.begun) c.view_at-begun.ensures.call in
-    let places = view_places es c.event_count-events.ensures.kept r (view_is (calls_of es) c.loop-place.place within) in
+    let places = view_places es c.event_count-events.ensures.ordered r (view_is (calls_of es) c.loop-place.place within) in
     let at : c.view_at-begun.result.call.begun < length c.in_ok-greatest.greatest.items = omega (arith, begun, places.begins, places.within, c.in_ok-greatest.ensures.size) in
     let value : c.index.result.now ≡ get_or c.in_ok-greatest.greatest.items r.begun 0 = c.index.ensures ∙ get_or_default c.in_ok-greatest.greatest.items c.view_at-begun.result.call.begun c.index.result.now 0 at ∙ ap (λ b. get_or c.in_ok-greatest.greatest.items b 0) begun in
     let above : shown_sum r < get_or c.in_ok-greatest.greatest.items r.begun 0 = omega (arith, c.if-sums-place.true, value, sum) in (
       λ t. absurd (false≢true t),
-      λ o. absurd (some_above es c.event_count-events.ensures.kept (length (views_of (calls_of es))) (length c.in_ok-greatest.greatest.items) c.in_ok-greatest.greatest.items r c.in_ok-greatest.ensures.size c.in_ok-greatest.ensures.greatest
+      λ o. absurd (some_above es c.event_count-events.ensures.ordered (length (views_of (calls_of es))) (length c.in_ok-greatest.greatest.items) c.in_ok-greatest.greatest.items r c.in_ok-greatest.ensures.size c.in_ok-greatest.ensures.greatest
           (view_is (calls_of es) c.loop-place.place within) above o),
     )
 
 pub loop-place-preserved : goal.loop-place-preserved
-loop-place-preserved c = λ place l. elim (cases_lt place c.loop-place.place) [
+loop-place-preserved g c = λ place l. elim (cases_lt place c.loop-place.place) [
   | inl old ↦ c.loop-place.invariant place old
   | inr new ↦
       let es = c.args.index.now in
@@ -44,16 +44,16 @@ loop-place-preserved c = λ place l. elim (cases_lt place c.loop-place.place) [
       let within : c.loop-place.place < length (views_of (calls_of es)) = omega (arith, c.loop-place-test.true, c.view_count-place-end.ensures) in
       let sum = sum_in (calls_of es) c.args.sums.now c.loop-place.place 0 c.requires within in
       let begun : c.view_at-begun.result.call.begun ≡ r.begun = ap (λ (z : IndexedCall). z.begun) c.view_at-begun.ensures.call in
-      let places = view_places es c.event_count-events.ensures.kept r (view_is (calls_of es) c.loop-place.place within) in
+      let places = view_places es c.event_count-events.ensures.ordered r (view_is (calls_of es) c.loop-place.place within) in
       let at : c.view_at-begun.result.call.begun < length c.in_ok-greatest.greatest.items = omega (arith, begun, places.begins, places.within, c.in_ok-greatest.ensures.size) in
       let value : c.index.result.now ≡ get_or c.in_ok-greatest.greatest.items r.begun 0 = c.index.ensures ∙ get_or_default c.in_ok-greatest.greatest.items c.view_at-begun.result.call.begun c.index.result.now 0 at ∙ ap (λ b. get_or c.in_ok-greatest.greatest.items b 0) begun in
       let most : get_or c.in_ok-greatest.greatest.items r.begun 0 ≤ shown_sum r = omega (arith, c.if-sums-place.false, value, sum) in
       subst (λ z. NoneAbove (calls_of es) (view_in (calls_of es) z)) here
-      (none_above es c.event_count-events.ensures.kept (length (views_of (calls_of es))) c.in_ok-greatest.greatest.items r refl c.in_ok-greatest.ensures.size c.in_ok-greatest.ensures.greatest
+      (none_above es c.event_count-events.ensures.ordered (length (views_of (calls_of es))) c.in_ok-greatest.greatest.items r refl c.in_ok-greatest.ensures.size c.in_ok-greatest.ensures.greatest
       (view_is (calls_of es) c.loop-place.place within) most)
 ]
 
 pub returns : goal.returns
-returns c =
+returns g c =
     let es = c.args.index.now in
     (λ t. ordered_by_places (calls_of es) (λ place l. c.loop-place.invariant place (omega (arith, l, c.loop-place-test.false, c.loop-place.auto.place-end, c.view_count-place-end.ensures))), λ o. refl)

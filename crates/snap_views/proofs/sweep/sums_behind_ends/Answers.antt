@@ -10,7 +10,7 @@ use Rattle.snap_views.proofs.sweep.sums_behind_ends.Goals as goal
 use Rattle.snap_views.proofs.sweep.sums_behind_ends.Goals.{in-Some, in_default}
 
 pub index-requires : goal.index-requires
-index-requires c =
+index-requires g c =
     let es = c.args.index.now in
     let within : c.loop-place.place < length (views_of (calls_of es)) = omega (arith, c.loop-place-test.true, c.view_count-place-end.ensures) in
     let at = view_places es c.requires.kept (view_in (calls_of es) c.loop-place.place) (view_is (calls_of es) c.loop-place.place within) in
@@ -19,7 +19,7 @@ index-requires c =
     omega (arith, same, at.within, c.loop-place.behind.ok, c.loop-place.invariant.size)
 
 pub index_mut-requires : goal.index_mut-requires
-index_mut-requires c =
+index_mut-requires g c =
     let es = c.args.index.now in
     let within : c.loop-place.place < length (views_of (calls_of es)) = omega (arith, c.loop-place-test.true, c.view_count-place-end.ensures) in
     let at = view_places es c.requires.kept (view_in (calls_of es) c.loop-place.place) (view_is (calls_of es) c.loop-place.place within) in
@@ -28,7 +28,7 @@ index_mut-requires c =
     omega (arith, same, at.within, c.loop-place.behind.ok, c.loop-place.invariant.size)
 
 pub loop-place-preserved : goal.loop-place-preserved
-loop-place-preserved c =
+loop-place-preserved g c =
     let es = c.args.index.now in
     let calls = calls_of es in
     let n = c.loop-place.place in
@@ -52,9 +52,9 @@ loop-place-preserved c =
     ]
 
 pub returns-clause-size : goal.returns-clause-size
-returns-clause-size c = c.loop-place.invariant.size
+returns-clause-size g c = c.loop-place.invariant.size
 
 pub returns-clause-sums : goal.returns-clause-sums
-returns-clause-sums c =
+returns-clause-sums g c =
     let all : c.loop-place.place ≡ length (views_of (calls_of c.args.index.now)) = omega (arith, c.loop-place-test.false, c.loop-place.auto.place-end, c.view_count-place-end.ensures) in
     subst (λ n. IsSwept (calls_of c.args.index.now) n 0 c.loop-place.behind.items) all c.loop-place.invariant.sums

@@ -4,7 +4,7 @@ use Rattle.snap_views.specs.inside.Sweeps.{IsSwept}
 use Rattle.snap_views.proofs.sweep.sums_behind_ends.Given as goal
 
 abbrev pub invariant-loop-place : goal.invariant-loop-place
-invariant-loop-place l = record {
+invariant-loop-place g l = record {
   size : length l.behind.items ≡ length l.index + 1;
   sums : IsSwept (calls_of l.index) l.place 0 l.behind.items;
 }

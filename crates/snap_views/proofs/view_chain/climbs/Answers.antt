@@ -7,17 +7,17 @@ use Rattle.snap_views.proofs.Climbing.{no_view_taken, nothing_climbs, no_sum, ro
 use Rattle.snap_views.proofs.view_chain.climbs.Goals as goal
 
 pub loop-sum-init : goal.loop-sum-init
-loop-sum-init c = record { size = refl; sum = sym no_sum; row = no_view_taken (calls_of c.args.index.now) c.args.keys.now; rising = nothing_climbs (calls_of c.args.index.now) c.args.keys.now }
+loop-sum-init g c = record { size = refl; sum = sym no_sum; row = no_view_taken (calls_of c.args.index.now) c.args.keys.now; rising = nothing_climbs (calls_of c.args.index.now) c.args.keys.now }
 
 pub returns-then-not-climb : goal.returns-then-not-climb
-returns-then-not-climb c = (
+returns-then-not-climb g c = (
   λ t. absurd (false≢true t),
   λ h.
       absurd (false≢true (sym c.if-not-climb.true ∙ c.climb.ensures.below.1 (row_below (calls_of c.args.index.now) c.args.keys.now c.loop-sum.sum-index c.loop-sum.numbers c.view_at-view.result.entries.now c.loop-sum-test.true c.loop-sum.invariant.row c.view_at-view.ensures.entries h))),
 )
 
 pub loop-sum-preserved : goal.loop-sum-preserved
-loop-sum-preserved c =
+loop-sum-preserved g c =
     let calls = calls_of c.args.index.now in
     let keys = c.args.keys.now in
     let n = c.loop-sum.sum-index in
@@ -32,6 +32,6 @@ loop-sum-preserved c =
     }
 
 pub returns : goal.returns
-returns c =
+returns g c =
     let whole : c.loop-sum.sum-index ≡ length c.args.keys.now = omega (arith, c.loop-sum-test.false, c.loop-sum.auto.sum-index-end) in
     (λ t. subst (Climbs (calls_of c.args.index.now) c.args.keys.now) whole c.loop-sum.invariant.rising, λ h. refl)

@@ -7,7 +7,7 @@ use Rattle.snap_views.proofs.Chains.{sum_in}
 use Rattle.snap_views.proofs.view_chain.keys.Goals as goal
 
 pub loop-place-preserved : goal.loop-place-preserved
-loop-place-preserved c =
+loop-place-preserved g c =
     let calls = calls_of c.args.index.now in
     let place = c.loop-place.place in
     let within : place < length (views_of calls) = (let l = c.loop-place-test.true in let e = c.view_count-place-end.ensures in omega (arith, l, e)) in
@@ -16,7 +16,7 @@ loop-place-preserved c =
     ∙ sym (map-range_with_len_more (summed_at calls) 0 place place (omega arith))
 
 pub returns : goal.returns
-returns c =
+returns g c =
     let calls = calls_of c.args.index.now in
     let all : c.loop-place.place ≡ length (views_of calls) = (let l = c.loop-place-test.false in let m = c.loop-place.auto.place-end in let e = c.view_count-place-end.ensures in omega (arith, l, m, e)) in
     c.loop-place.invariant ∙ ap (λ n. map (summed_at calls) (range_with_len 0 n)) all

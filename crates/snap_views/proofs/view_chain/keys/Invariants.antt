@@ -5,4 +5,4 @@ use Rattle.snap_views.specs.Chains.{summed_at}
 use Rattle.snap_views.proofs.view_chain.keys.Given as goal
 
 abbrev pub invariant-loop-place : goal.invariant-loop-place
-invariant-loop-place l = l.keys.items ≡ map (summed_at (calls_of l.index)) (range_with_len 0 l.place)
+invariant-loop-place g l = l.keys.items ≡ map (summed_at (calls_of l.index)) (range_with_len 0 l.place)

@@ -8,10 +8,10 @@ use Rattle.snap_theory.specs.Kept.{is_among}
 use Rattle.snap_witness.proofs.calls.begins_among.Goals as goal
 
 pub unreachable-requires : goal.unreachable-requires
-unreachable-requires c = let gone = sym (ap option_copied c.in_default.is) ∙ c.call.ensures ∙ indexed_within (calls_of c.args.index.now) c.args.number c.requires in cc
+unreachable-requires g c = let gone = sym (ap option_copied c.in_default.is) ∙ c.call.ensures ∙ indexed_within (calls_of c.args.index.now) c.args.number c.requires in cc
 
 pub returns : goal.returns
-returns c =
+returns g c =
     let read : Some c.in-Some.call.now ≡ Some (as_indexed (call_numbered (calls_of c.args.index.now) c.args.number)) =
     sym (ap option_copied c.in-Some.is) ∙ c.call.ensures ∙ indexed_within (calls_of c.args.index.now) c.args.number c.requires in
     let same : c.in-Some.call.now ≡ as_indexed (call_numbered (calls_of c.args.index.now) c.args.number) = cc in

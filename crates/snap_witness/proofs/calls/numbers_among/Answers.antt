@@ -10,7 +10,7 @@ use Rattle.snap_witness.proofs.calls.numbers_among.Goals as goal
 use Rattle.snap_witness.proofs.calls.numbers_among.Goals.{then-begins_among+in_ok-push, else-begins_among}
 
 pub loop-number-preserved : goal.loop-number-preserved
-loop-number-preserved c =
+loop-number-preserved g c =
     let es = c.args.index.now in
     let keeps = is_among c.args.places.now in
     let n = c.loop-number.number in

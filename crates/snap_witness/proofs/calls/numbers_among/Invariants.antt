@@ -6,4 +6,4 @@ use Rattle.snap_witness.specs.Keeping.{calls_begun}
 use Rattle.snap_witness.proofs.calls.numbers_among.Given as goal
 
 abbrev pub invariant-loop-number : goal.invariant-loop-number
-invariant-loop-number l = l.numbers.items ≡ map number_of (calls_begun (is_among l.places) (take l.number (calls_of l.index)))
+invariant-loop-number g l = l.numbers.items ≡ map number_of (calls_begun (is_among l.places) (take l.number (calls_of l.index)))

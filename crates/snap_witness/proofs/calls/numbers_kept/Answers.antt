@@ -10,7 +10,7 @@ use Rattle.snap_witness.specs.inside.Places.{calls_numbered}
 use Rattle.snap_witness.proofs.calls.numbers_kept.Goals as goal
 
 pub returns : goal.returns
-returns c =
+returns g c =
     let calls = calls_of c.args.index.now in
     let chosen = witness_calls calls (calls_numbered calls c.args.views.now) c.args.updates.now in
     let same = begun_same (is_among c.deref.result.now) (is_place_of chosen) calls (λ place. ap (λ z. is_among z place) (c.deref.ensures.value ∙ c.in_ok-places.ensures) ∙ among_places chosen place) in

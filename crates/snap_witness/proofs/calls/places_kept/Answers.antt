@@ -6,7 +6,7 @@ use Rattle.snap_witness.proofs.Places.{places_join}
 use Rattle.snap_witness.proofs.calls.places_kept.Goals as goal
 
 pub returns : goal.returns
-returns c =
+returns g c =
     let es = c.args.index.now in
     let rs = calls_numbered (calls_of es) c.args.views.now in
     let ps = c.args.updates.now in

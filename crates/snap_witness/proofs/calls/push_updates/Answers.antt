@@ -12,10 +12,10 @@ use Rattle.snap_witness.proofs.calls.push_updates.Goals.{in-Some+in_ok-push_call
 
 pub loop-i-init : goal.loop-i-init
 unfolding places_of
-loop-i-init c = sym (append-nil c.args.places.now.items)
+loop-i-init g c = sym (append-nil c.args.places.now.items)
 
 pub loop-i-preserved : goal.loop-i-preserved
-loop-i-preserved c =
+loop-i-preserved g c =
     let calls = calls_of c.args.index.now in
     let p = get_or c.args.updates.now c.loop-i.i (0, 0) in
     let more = updates_more calls c.args.updates.now c.loop-i.i (0, 0) c.loop-i-test.true in

@@ -10,16 +10,16 @@ use Rattle.snap_witness.proofs.calls.push_views.Goals as goal
 
 pub loop-i-init : goal.loop-i-init
 unfolding places_of calls_numbered
-loop-i-init c = sym (append-nil c.args.places.now.items)
+loop-i-init g c = sym (append-nil c.args.places.now.items)
 
 pub unreachable-requires : goal.unreachable-requires
-unreachable-requires c =
+unreachable-requires g c =
     let there = indexed_within (calls_of c.args.index.now) (get_or c.args.views.now c.loop-i.i 0) (c.requires c.loop-i.i 0 c.loop-i-test.true) in
     let gone = sym (ap option_copied c.in_default.is) ∙ c.call.ensures ∙ there in
     cc
 
 pub loop-i-preserved : goal.loop-i-preserved
-loop-i-preserved c =
+loop-i-preserved g c =
     let n = get_or c.args.views.now c.loop-i.i 0 in
     let there = indexed_within (calls_of c.args.index.now) n (c.requires c.loop-i.i 0 c.loop-i-test.true) in
     let read : Some c.in-Some.call.now ≡ Some (as_indexed (call_numbered (calls_of c.args.index.now) n)) = sym (ap option_copied c.in-Some.is) ∙ c.call.ensures ∙ there in

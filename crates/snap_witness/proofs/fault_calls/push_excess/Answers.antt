@@ -6,7 +6,7 @@ use Rattle.snap_witness.proofs.Excess.{least_exceeded, number_shown}
 use Rattle.snap_witness.proofs.fault_calls.push_excess.Goals as goal
 
 pub returns-in_ok-push : goal.returns-in_ok-push
-returns-in_ok-push c =
+returns-in_ok-push g c =
     let r = call_numbered (calls_of c.args.index.now) c.args.view in
     let s = call_numbered (calls_of c.args.index.now) c.args.other in
     let least : least_exceeding r s ≡ Some c.in-Some.k = sym (least_exceeded r s c.view_numbered-shown.result.now c.view_numbered.result.now c.view_numbered-shown.ensures c.view_numbered.ensures) ∙ sym c.least_exceeding.ensures ∙ c.in-Some.is in
@@ -14,7 +14,7 @@ returns-in_ok-push c =
     c.in_ok-push.ensures.items ∙ ap (λ n. c.args.updates.now.items ++ (c.in-Some.k, n) ∷ []) number ∙ ap (λ z. c.args.updates.now.items ++ shown_update r z) (sym least)
 
 pub returns-in_default : goal.returns-in_default
-returns-in_default c =
+returns-in_default g c =
     let r = call_numbered (calls_of c.args.index.now) c.args.view in
     let s = call_numbered (calls_of c.args.index.now) c.args.other in
     let none : least_exceeding r s ≡ None = sym (least_exceeded r s c.view_numbered-shown.result.now c.view_numbered.result.now c.view_numbered-shown.ensures c.view_numbered.ensures) ∙ sym c.least_exceeding.ensures ∙ c.in_default.is in

@@ -7,7 +7,7 @@ use Rattle.snap_witness.proofs.Named.{named_numbers, names_same}
 use Rattle.snap_witness.proofs.finding.first_kept.Goals as goal
 
 pub returns-in_ok-kept-in-Some : goal.returns-in_ok-kept-in-Some
-returns-in_ok-kept-in-Some c =
+returns-in_ok-kept-in-Some g c =
     let es = c.args.index.now in
     let first = first_fault (calls_of es) in
     let n = subst (λ o. NamesFirst es (option_map (λ calls. (calls.views.items, calls.updates.items)) o)) c.in-Some.is c.in_ok-calls.ensures in

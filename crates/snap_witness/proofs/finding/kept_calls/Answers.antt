@@ -4,4 +4,4 @@ use Rattle.snap_witness.proofs.Answered.{none_exactly}
 use Rattle.snap_witness.proofs.finding.kept_calls.Goals as goal
 
 pub returns-clause-none : goal.returns-clause-none
-returns-clause-none c = IfOk-weaker c.first_kept.result _ _ (none_exactly c.args.index.now c.event_count-events.ensures.kept (λ kept. kept.items) (numbers_kept c.args.index.now)) c.first_kept.ensures
+returns-clause-none g c = IfOk-weaker c.first_kept.result _ _ (none_exactly g.O.Ownership.writers c.args.index.now c.event_count-events.ensures.kept (λ kept. kept.items) (numbers_kept c.args.index.now)) c.first_kept.ensures

@@ -4,22 +4,22 @@ use Rattle.snap_witness.proofs.Answered.{each, whole_calls, few_calls, few_event
 use Rattle.snap_witness.proofs.finding.witness.Goals as goal
 
 pub returns-clause-none : goal.returns-clause-none
-returns-clause-none c = IfOk-weaker c.first_witness.result _ _ (none_exactly c.args.index.now c.event_count-events.ensures.kept (λ h. h.events) (fault_witness c.args.index.now)) c.first_witness.ensures
+returns-clause-none g c = IfOk-weaker c.first_witness.result _ _ (none_exactly g.O.Ownership.writers c.args.index.now c.event_count-events.ensures.kept (λ h. h.events) (fault_witness c.args.index.now)) c.first_witness.ensures
 
 pub returns-clause-calls : goal.returns-clause-calls
-returns-clause-calls c = IfOk-weaker c.first_witness.result _ _ (each c.args.index.now c.event_count-events.ensures.kept _ (whole_calls c.args.index.now)) c.first_witness.ensures
+returns-clause-calls g c = IfOk-weaker c.first_witness.result _ _ (each c.args.index.now c.event_count-events.ensures.ordered _ (whole_calls c.args.index.now)) c.first_witness.ensures
 
 pub returns-clause-few_calls : goal.returns-clause-few_calls
-returns-clause-few_calls c = IfOk-weaker c.first_witness.result _ _ (each c.args.index.now c.event_count-events.ensures.kept _ (few_calls c.args.index.now)) c.first_witness.ensures
+returns-clause-few_calls g c = IfOk-weaker c.first_witness.result _ _ (each c.args.index.now c.event_count-events.ensures.ordered _ (few_calls c.args.index.now)) c.first_witness.ensures
 
 pub returns-clause-few_events : goal.returns-clause-few_events
-returns-clause-few_events c = IfOk-weaker c.first_witness.result _ _ (each c.args.index.now c.event_count-events.ensures.kept _ (few_events c.args.index.now)) c.first_witness.ensures
+returns-clause-few_events g c = IfOk-weaker c.first_witness.result _ _ (each c.args.index.now c.event_count-events.ensures.ordered _ (few_events c.args.index.now)) c.first_witness.ensures
 
 pub returns-clause-fault : goal.returns-clause-fault
-returns-clause-fault c = IfOk-weaker c.first_witness.result _ _ (each c.args.index.now c.event_count-events.ensures.kept _ (has_first c.args.index.now)) c.first_witness.ensures
+returns-clause-fault g c = IfOk-weaker c.first_witness.result _ _ (each c.args.index.now c.event_count-events.ensures.ordered _ (has_first c.args.index.now)) c.first_witness.ensures
 
 pub returns-clause-not_atomic : goal.returns-clause-not_atomic
-returns-clause-not_atomic c = IfOk-weaker c.first_witness.result _ _ (each c.args.index.now c.event_count-events.ensures.kept _ (is_not_atomic c.args.index.now)) c.first_witness.ensures
+returns-clause-not_atomic g c = IfOk-weaker c.first_witness.result _ _ (each c.args.index.now c.event_count-events.ensures.ordered _ (is_not_atomic c.args.index.now)) c.first_witness.ensures
 
 pub returns-clause-regular : goal.returns-clause-regular
-returns-clause-regular c = IfOk-weaker c.first_witness.result _ _ (each c.args.index.now c.event_count-events.ensures.kept _ (is_regular c.args.index.now c.event_count-events.ensures.kept)) c.first_witness.ensures
+returns-clause-regular g c = IfOk-weaker c.first_witness.result _ _ (each c.args.index.now c.event_count-events.ensures.ordered _ (is_regular c.args.index.now c.event_count-events.ensures.ordered)) c.first_witness.ensures

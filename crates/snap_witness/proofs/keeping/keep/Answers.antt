@@ -1,6 +1,6 @@
 use Rattle.std.proofs.Common.{◌≡◌, true, false, take, sym, ap, ◌∙◌, append-nil}
 use Rattle.snap_core.specs.declared.event.Event.TheVariants.{BeginView}
-use Rattle.snap_core.specs.Events.{event_cap}
+use Rattle.snap_core.specs.UsualLimits.{greatest_limit}
 use Rattle.snap_core.specs.Refusals.{refusal_of}
 use Rattle.snap_theory.specs.Kept.{kept_from, kept_event, is_among}
 use Rattle.snap_theory.specs.Witness.{numbers_of}
@@ -13,8 +13,8 @@ append-requires c =
     let t : is_among c.args.places.now c.loop-i.i ≡ true = sym c.is_among.ensures ∙ c.if-is_among.true in
     let r = none_refused (is_among c.args.places.now) (numbers_of c.args.pairs.now) c.args.events.now c.loop-i.i c.index-events-i.result c.requires.history c.requires.short c.loop-i-test.true t in
     ap (λ n. refusal_of n c.loop-i.history.events c.in_ok-event.event) c.loop-i.invariant.limit
-    ∙ ap (λ z. refusal_of event_cap z c.in_ok-event.event) c.loop-i.invariant.kept
-    ∙ ap (refusal_of event_cap (kept_from (is_among c.args.places.now) (numbers_of c.args.pairs.now) 0 (take c.loop-i.i c.args.events.now))) (c.in_ok-event.ensures ∙ ap (kept_event (numbers_of c.args.pairs.now)) c.index-events-i.is)
+    ∙ ap (λ z. refusal_of greatest_limit z c.in_ok-event.event) c.loop-i.invariant.kept
+    ∙ ap (refusal_of greatest_limit (kept_from (is_among c.args.places.now) (numbers_of c.args.pairs.now) 0 (take c.loop-i.i c.args.events.now))) (c.in_ok-event.ensures ∙ ap (kept_event (numbers_of c.args.pairs.now)) c.index-events-i.is)
     ∙ r
 
 pub loop-i-preserved : goal.loop-i-preserved

@@ -6,7 +6,7 @@ pub returns-then-flag_in-clause-unfollowed : goal.returns-then-flag_in-clause-un
 returns-then-flag_in-clause-unfollowed c = λ lacks. absurd (false≢true (sym (c.if-flag_in.ensures.given false lacks.no_follow)))
 
 pub returns-else-flag_in-clause-follow : goal.returns-else-flag_in-clause-follow
-returns-else-flag_in-clause-follow c = λ events windows asks. absurd (false≢true (c.if-flag_in.ensures.given true asks.follow_is))
+returns-else-flag_in-clause-follow c = λ limit windows asks. absurd (false≢true (c.if-flag_in.ensures.given true asks.follow_is))
 
 pub returns-else-flag_in-clause-unheeded : goal.returns-else-flag_in-clause-unheeded
 returns-else-flag_in-clause-unheeded c = λ asks. absurd (false≢true (c.if-flag_in.ensures.given true asks.followed))

@@ -21,7 +21,7 @@ not_given id rows = go (find (λ r. bytes_eq r.id id) rows)
 
 pub returns : goal.returns
 returns c = λ asked asks.
-    let views_given = c.in_ok-views.ensures.given asked.options.views (omega (arith, asks.limit.events_fit, asks.views_fit)) asks.views_are in
+    let views_given = c.in_ok-views.ensures.given asked.options.views (omega (arith, asked.limit.fits, asks.views_fit)) asks.views_are in
     let format_given = c.in_ok-format.ensures.given asked.options.format asks.format_is in
     let color_given = c.in_ok-color.ensures.given asked.options.color asks.color_is in
     let quiet = c.flag_in-quiet.ensures.given asked.options.quiet asks.quiet_is in

@@ -11,39 +11,39 @@ pub returns-clause-check : goal.returns-clause-check
 returns-clause-check c = λ asked files whole means. c.readable.ensures (c.in-Err.ensures.check asked files means)
 
 pub returns-in-Ok-clause-follow : goal.returns-in-Ok-clause-follow
-returns-in-Ok-clause-follow c = λ events windows files whole means.
-    subst (IsFollow events windows files) (sym (c.in_ok-whole_job-in-Ok.ensures.same (c.deref-in-Ok.ensures.value ∙ whole))) (c.in-Ok.ensures.follow events windows files means)
+returns-in-Ok-clause-follow c = λ limit windows files whole means.
+    subst (IsFollow limit windows files) (sym (c.in_ok-whole_job-in-Ok.ensures.same (c.deref-in-Ok.ensures.value ∙ whole))) (c.in-Ok.ensures.follow limit windows files means)
 
 pub returns-clause-follow : goal.returns-clause-follow
-returns-clause-follow c = λ events windows files whole means. c.readable.ensures (c.in-Err.ensures.follow events windows files means)
+returns-clause-follow c = λ limit windows files whole means. c.readable.ensures (c.in-Err.ensures.follow limit windows files means)
 
 pub returns-in-Ok-clause-shrink : goal.returns-in-Ok-clause-shrink
-returns-in-Ok-clause-shrink c = λ events shrunk files whole means.
-    subst (IsShrink events shrunk files) (sym (c.in_ok-whole_job-in-Ok.ensures.same (c.deref-in-Ok.ensures.value ∙ whole))) (c.in-Ok.ensures.shrink events shrunk files means)
+returns-in-Ok-clause-shrink c = λ limit shrunk files whole means.
+    subst (IsShrink limit shrunk files) (sym (c.in_ok-whole_job-in-Ok.ensures.same (c.deref-in-Ok.ensures.value ∙ whole))) (c.in-Ok.ensures.shrink limit shrunk files means)
 
 pub returns-clause-shrink : goal.returns-clause-shrink
-returns-clause-shrink c = λ events shrunk files whole means. c.readable.ensures (c.in-Err.ensures.shrink events shrunk files means)
+returns-clause-shrink c = λ limit shrunk files whole means. c.readable.ensures (c.in-Err.ensures.shrink limit shrunk files means)
 
 pub returns-in-Ok-clause-explain : goal.returns-in-Ok-clause-explain
-returns-in-Ok-clause-explain c = λ events drawn all faults files whole means.
-    subst (IsExplain events drawn all faults files) (sym (c.in_ok-whole_job-in-Ok.ensures.same (c.deref-in-Ok.ensures.value ∙ whole))) (c.in-Ok.ensures.explain events drawn all faults files means)
+returns-in-Ok-clause-explain c = λ limit drawn all faults files whole means.
+    subst (IsExplain limit drawn all faults files) (sym (c.in_ok-whole_job-in-Ok.ensures.same (c.deref-in-Ok.ensures.value ∙ whole))) (c.in-Ok.ensures.explain limit drawn all faults files means)
 
 pub returns-clause-explain : goal.returns-clause-explain
-returns-clause-explain c = λ events drawn all faults files whole means. c.readable.ensures (c.in-Err.ensures.explain events drawn all faults files means)
+returns-clause-explain c = λ limit drawn all faults files whole means. c.readable.ensures (c.in-Err.ensures.explain limit drawn all faults files means)
 
 pub returns-in-Ok-clause-draw : goal.returns-in-Ok-clause-draw
-returns-in-Ok-clause-draw c = λ events form part files whole means.
-    subst (IsDraw events form part files) (sym (c.in_ok-whole_job-in-Ok.ensures.same (c.deref-in-Ok.ensures.value ∙ whole))) (c.in-Ok.ensures.draw events form part files means)
+returns-in-Ok-clause-draw c = λ limit form part files whole means.
+    subst (IsDraw limit form part files) (sym (c.in_ok-whole_job-in-Ok.ensures.same (c.deref-in-Ok.ensures.value ∙ whole))) (c.in-Ok.ensures.draw limit form part files means)
 
 pub returns-clause-draw : goal.returns-clause-draw
-returns-clause-draw c = λ events form part files whole means. c.readable.ensures (c.in-Err.ensures.draw events form part files means)
+returns-clause-draw c = λ limit form part files whole means. c.readable.ensures (c.in-Err.ensures.draw limit form part files means)
 
 pub returns-in-Ok-clause-stats : goal.returns-in-Ok-clause-stats
-returns-in-Ok-clause-stats c = λ events json files whole means.
-    subst (IsStats events json files) (sym (c.in_ok-whole_job-in-Ok.ensures.same (c.deref-in-Ok.ensures.value ∙ whole))) (c.in-Ok.ensures.stats events json files means)
+returns-in-Ok-clause-stats c = λ limit json files whole means.
+    subst (IsStats limit json files) (sym (c.in_ok-whole_job-in-Ok.ensures.same (c.deref-in-Ok.ensures.value ∙ whole))) (c.in-Ok.ensures.stats limit json files means)
 
 pub returns-clause-stats : goal.returns-clause-stats
-returns-clause-stats c = λ events json files whole means. c.readable.ensures (c.in-Err.ensures.stats events json files means)
+returns-clause-stats c = λ limit json files whole means. c.readable.ensures (c.in-Err.ensures.stats limit json files means)
 
 pub returns-in-Ok-clause-recording : goal.returns-in-Ok-clause-recording
 returns-in-Ok-clause-recording c = λ events workers rounds seed flags files whole means.

@@ -27,39 +27,39 @@ returns-clause-check c = λ asked files means.
     on_files means.rows files (IsCheck asked) c.asked_by.result means.files_are ((c.asked_by.ensures.asked (codes "check") means.rows (found c _ means.rows_are)).check asked refl means.asks)
 
 pub returns-in-Err-clause-follow : goal.returns-in-Err-clause-follow
-returns-in-Err-clause-follow c = λ events windows files means. memory c means.taken
+returns-in-Err-clause-follow c = λ limit windows files means. memory c means.taken
 
 pub returns-clause-follow : goal.returns-clause-follow
-returns-clause-follow c = λ events windows files means.
-    on_files means.rows files (IsFollow events windows) c.asked_by.result means.files_are ((c.asked_by.ensures.asked (codes "check") means.rows (found c _ means.rows_are)).follow events windows refl means.asks)
+returns-clause-follow c = λ limit windows files means.
+    on_files means.rows files (IsFollow limit windows) c.asked_by.result means.files_are ((c.asked_by.ensures.asked (codes "check") means.rows (found c _ means.rows_are)).follow limit windows refl means.asks)
 
 pub returns-in-Err-clause-shrink : goal.returns-in-Err-clause-shrink
-returns-in-Err-clause-shrink c = λ events shrunk files means. memory c means.taken
+returns-in-Err-clause-shrink c = λ limit shrunk files means. memory c means.taken
 
 pub returns-clause-shrink : goal.returns-clause-shrink
-returns-clause-shrink c = λ events shrunk files means.
-    on_files means.rows files (IsShrink events shrunk) c.asked_by.result means.files_are ((c.asked_by.ensures.asked (codes "shrink") means.rows (found c _ means.rows_are)).shrink events shrunk refl means.asks)
+returns-clause-shrink c = λ limit shrunk files means.
+    on_files means.rows files (IsShrink limit shrunk) c.asked_by.result means.files_are ((c.asked_by.ensures.asked (codes "shrink") means.rows (found c _ means.rows_are)).shrink limit shrunk refl means.asks)
 
 pub returns-in-Err-clause-explain : goal.returns-in-Err-clause-explain
-returns-in-Err-clause-explain c = λ events drawn whole faults files means. memory c means.taken
+returns-in-Err-clause-explain c = λ limit drawn whole faults files means. memory c means.taken
 
 pub returns-clause-explain : goal.returns-clause-explain
-returns-clause-explain c = λ events drawn whole faults files means.
-    on_files means.rows files (IsExplain events drawn whole faults) c.asked_by.result means.files_are ((c.asked_by.ensures.asked (codes "explain") means.rows (found c _ means.rows_are)).explain events drawn whole faults refl means.asks)
+returns-clause-explain c = λ limit drawn whole faults files means.
+    on_files means.rows files (IsExplain limit drawn whole faults) c.asked_by.result means.files_are ((c.asked_by.ensures.asked (codes "explain") means.rows (found c _ means.rows_are)).explain limit drawn whole faults refl means.asks)
 
 pub returns-in-Err-clause-draw : goal.returns-in-Err-clause-draw
-returns-in-Err-clause-draw c = λ events form part files means. memory c means.taken
+returns-in-Err-clause-draw c = λ limit form part files means. memory c means.taken
 
 pub returns-clause-draw : goal.returns-clause-draw
-returns-clause-draw c = λ events form part files means.
-    on_files means.rows files (IsDraw events form part) c.asked_by.result means.files_are ((c.asked_by.ensures.asked (codes "draw") means.rows (found c _ means.rows_are)).draw events form part refl means.asks)
+returns-clause-draw c = λ limit form part files means.
+    on_files means.rows files (IsDraw limit form part) c.asked_by.result means.files_are ((c.asked_by.ensures.asked (codes "draw") means.rows (found c _ means.rows_are)).draw limit form part refl means.asks)
 
 pub returns-in-Err-clause-stats : goal.returns-in-Err-clause-stats
-returns-in-Err-clause-stats c = λ events json files means. memory c means.taken
+returns-in-Err-clause-stats c = λ limit json files means. memory c means.taken
 
 pub returns-clause-stats : goal.returns-clause-stats
-returns-clause-stats c = λ events json files means.
-    on_files means.rows files (IsStats events json) c.asked_by.result means.files_are ((c.asked_by.ensures.asked (codes "stats") means.rows (found c _ means.rows_are)).stats events json refl means.asks)
+returns-clause-stats c = λ limit json files means.
+    on_files means.rows files (IsStats limit json) c.asked_by.result means.files_are ((c.asked_by.ensures.asked (codes "stats") means.rows (found c _ means.rows_are)).stats limit json refl means.asks)
 
 pub returns-in-Err-clause-recording : goal.returns-in-Err-clause-recording
 returns-in-Err-clause-recording c = λ events workers rounds seed flags files means. memory c means.taken

@@ -1,9 +1,10 @@
 use Rattle.std.proofs.Common.{◌≡◌, ◌≤◌, ◌<◌, ◌∷◌, [], List, arith, codes, false, refl, true}
 use Rattle.clap.specs.Words.{Text}
 use Rattle.clap.proofs.OnLiterals.{clap_on_literals}
-use Rattle.snap_core.specs.Limits.{event_limit}
+use Rattle.snap_core.specs.UsualLimits.{greatest_limit, usual_limit}
 use Rattle.snap_words.specs.Jobs.{NamesInputTwice, inputs_in}
-use Rattle.snap_words.proofs.Meanings.{greatest_limit, means, stats_of, usual_limit}
+use Rattle.snap_words.specs.Limits.{usual_many}
+use Rattle.snap_words.proofs.Meanings.{asks_greatest, asks_many, asks_usual, means, stats_of}
 use Rattle.snap_words.proofs.lines.stats_lines.Goals as goal
 
 -- how often some files name standard input; this is shown apart, where the parser is not computed
@@ -24,19 +25,23 @@ doubled_twice = let twice : inputs_in doubled ≡ 2 = refl in omega (arith, twic
 
 pub returns-clause-alone : goal.returns-clause-alone
 unfolding clap_on_literals
-returns-clause-alone c = λ name. stats_of event_limit false [] _ refl refl refl (usual_limit _ refl) none_once refl
+returns-clause-alone c = λ name. stats_of usual_limit false [] _ refl refl refl (asks_usual _ refl refl) none_once refl
 
 pub returns-clause-json : goal.returns-clause-json
 unfolding clap_on_literals
-returns-clause-json c = λ name. stats_of event_limit true [] _ refl refl refl (usual_limit _ refl) none_once refl
+returns-clause-json c = λ name. stats_of usual_limit true [] _ refl refl refl (asks_usual _ refl refl) none_once refl
 
 pub returns-clause-events : goal.returns-clause-events
 unfolding clap_on_literals
-returns-clause-events c = λ name. stats_of 1048576 false [] _ refl refl refl (greatest_limit _ refl) none_once refl
+returns-clause-events c = λ name. stats_of greatest_limit false [] _ refl refl refl (asks_greatest _ refl refl) none_once refl
+
+pub returns-clause-writers : goal.returns-clause-writers
+unfolding clap_on_literals
+returns-clause-writers c = λ name. stats_of usual_many false [] _ refl refl refl (asks_many _ refl refl) none_once refl
 
 pub returns-clause-files : goal.returns-clause-files
 unfolding clap_on_literals
-returns-clause-files c = λ name. stats_of event_limit false named _ refl refl refl (usual_limit _ refl) named_once refl
+returns-clause-files c = λ name. stats_of usual_limit false named _ refl refl refl (asks_usual _ refl refl) named_once refl
 
 pub returns-clause-repeated : goal.returns-clause-repeated
 unfolding clap_on_literals

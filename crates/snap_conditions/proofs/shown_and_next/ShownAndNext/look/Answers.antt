@@ -15,7 +15,7 @@ use Rattle.snap_conditions.proofs.shown_and_next.ShownAndNext.look.Goals as goal
 use Rattle.snap_conditions.proofs.shown_and_next.ShownAndNext.look.Goals.{then-self, else-self}
 
 pub returns-clause-numbers : goal.returns-clause-numbers
-returns-clause-numbers c =
+returns-clause-numbers g c =
     let around = c.look_at_entries.ensures.around in
     let limit = c.look_at_entries.new.self.limit in
     let is_limit : IsLimit (calls_of c.args.index.now) limit = subst (IsLimit (calls_of c.args.index.now)) (sym c.look_at_entries.ensures.limit) c.requires.before.limit in
@@ -40,10 +40,10 @@ returns-clause-numbers c =
     }
 
 pub returns-then-not-look_at_entries-clause-updates : goal.returns-then-not-look_at_entries-clause-updates
-returns-then-not-look_at_entries-clause-updates c = λ r seen.
+returns-then-not-look_at_entries-clause-updates g c = λ r seen.
     let same : ¬ IsTrue c.look_at_entries.result = λ t. let f = c.if-not-look_at_entries.true in cc in
     subst (IsOfView (calls_of c.args.index.now) r) (sym (c.look_at_entries.ensures.unchanged same))
     (around_seen c.args.index.now c.requires.kept r c.args.self.now c.requires.before (c.look_at_entries.ensures.same same ∙ seen.entries))
 
 pub returns-clause-updates : goal.returns-clause-updates
-returns-clause-updates c = λ r seen. around_seen c.args.index.now c.requires.kept r _ (returns-clause-numbers c) seen.entries
+returns-clause-updates g c = λ r seen. around_seen c.args.index.now c.requires.kept r _ (returns-clause-numbers g c) seen.entries

@@ -14,23 +14,23 @@ use Rattle.snap_conditions.proofs.Exchanged.{exchanged, same_piece, each_exchang
 use Rattle.snap_conditions.proofs.shown_and_next.ShownAndNext.look_along.Goals as goal
 
 pub loop-begin-init : goal.loop-begin-init
-loop-begin-init c = record {
+loop-begin-init g c = record {
   looked_up = record { limit = refl; numbers = c.requires.before.numbers; around = c.requires.before.around; written = c.requires.before.written };
   same = λ s. refl;
   unchanged = λ s. refl;
 }
 
 pub loop-i-init : goal.loop-i-init
-loop-i-init c = c.loop-begin.invariant.looked_up
+loop-i-init g c = c.loop-begin.invariant.looked_up
 
 pub look_at-requires-clause-before : goal.look_at-requires-clause-before
-look_at-requires-clause-before c = c.loop-i.invariant.around
+look_at-requires-clause-before g c = c.loop-i.invariant.around
 
 pub returns-then-entry-before-clause-around : goal.returns-then-entry-before-clause-around
-returns-then-entry-before-clause-around c = c.loop-i.invariant.around
+returns-then-entry-before-clause-around g c = c.loop-i.invariant.around
 
 pub loop-i-preserved : goal.loop-i-preserved
-loop-i-preserved c = record {
+loop-i-preserved g c = record {
   limit = c.look_at.ensures.limit ∙ c.loop-i.invariant.limit;
   numbers = λ k l.
       let old = c.args.self.now.entries.now in
@@ -59,7 +59,7 @@ loop-i-preserved c = record {
 }
 
 pub loop-begin-preserved-after-loop-i : goal.loop-begin-preserved-after-loop-i
-loop-begin-preserved-after-loop-i c = record {
+loop-begin-preserved-after-loop-i g c = record {
   looked_up = record {
     limit = c.loop-i.invariant.limit;
     numbers = let end : c.loop-i.i ≡ c.min-end.result = omega arith in λ k l. c.loop-i.invariant.numbers k l ∙ ap (λ n. number_among (exchanged c.args.self.now.entries.now c.args.entries.now n) k) end;
@@ -71,7 +71,7 @@ loop-begin-preserved-after-loop-i c = record {
 }
 
 pub loop-begin-preserved : goal.loop-begin-preserved
-loop-begin-preserved c =
+loop-begin-preserved g c =
     let old = c.args.self.now.entries.now in
     let new = c.args.entries.now in
     let i = c.loop-begin.begin in
@@ -94,20 +94,20 @@ exchanged_all : (old new : List Entry) (i : ℕ) → length old ≡ length new �
 exchanged_all old new i long l = ap (λ es. es ++ drop i old) (take_all i new l) ∙ ap (λ es. new ++ es) (drop_all i old (omega arith)) ∙ append-nil new
 
 pub returns-clause-around : goal.returns-clause-around
-returns-clause-around c = c.loop-begin.invariant.looked_up.around
+returns-clause-around g c = c.loop-begin.invariant.looked_up.around
 
 pub returns-clause-numbers : goal.returns-clause-numbers
-returns-clause-numbers c = λ r k l.
+returns-clause-numbers g c = λ r k l.
     c.loop-begin.invariant.looked_up.numbers k l
     ∙ ap (λ es. number_among es k) (exchanged_all c.args.self.now.entries.now c.args.entries.now c.loop-begin.begin (omega arith) (omega arith))
 
 pub returns-clause-same : goal.returns-clause-same
-returns-clause-same c = λ s. c.loop-begin.invariant.same s ∙ exchanged_all c.args.self.now.entries.now c.args.entries.now c.loop-begin.begin (omega arith) (omega arith)
+returns-clause-same g c = λ s. c.loop-begin.invariant.same s ∙ exchanged_all c.args.self.now.entries.now c.args.entries.now c.loop-begin.begin (omega arith) (omega arith)
 
 pub returns-clause-written : goal.returns-clause-written
-returns-clause-written c = λ r t.
+returns-clause-written g c = λ r t.
     subst (All (IsWritten (calls_of c.args.index.now))) (exchanged_all c.args.self.now.entries.now c.args.entries.now c.loop-begin.begin (omega arith) (omega arith))
     (c.loop-begin.invariant.looked_up.written t)
 
 pub returns-clause-unchanged : goal.returns-clause-unchanged
-returns-clause-unchanged c = c.loop-begin.invariant.unchanged
+returns-clause-unchanged g c = c.loop-begin.invariant.unchanged

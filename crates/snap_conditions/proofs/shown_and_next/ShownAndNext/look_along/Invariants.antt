@@ -20,14 +20,14 @@ IsLookedUp es bound old new i updates = record {
 }
 
 abbrev pub invariant-loop-i : goal.invariant-loop-i
-invariant-loop-i l = IsLookedUp l.index l.fn.self.limit l.before l.entries l.i l.self
+invariant-loop-i g l = IsLookedUp l.index l.fn.self.limit l.before l.entries l.i l.self
 
 abbrev pub invariant-loop-begin : goal.invariant-loop-begin
-invariant-loop-begin l = record {
+invariant-loop-begin g l = record {
   looked_up : IsLookedUp l.index l.fn.self.limit l.before l.entries l.begin l.self;
   same : l.along ≡ Same → l.before ≡ exchanged l.before l.entries l.begin;
   unchanged : l.along ≡ Same → l.self ≡ l.fn.self;
 }
 
 abbrev pub decreases-loop-begin : goal.decreases-loop-begin
-decreases-loop-begin l = length l.entries - l.begin
+decreases-loop-begin g l = length l.entries - l.begin

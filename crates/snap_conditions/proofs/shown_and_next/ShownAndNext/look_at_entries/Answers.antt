@@ -5,13 +5,13 @@ use Rattle.snap_conditions.proofs.Left.{all_left}
 use Rattle.snap_conditions.proofs.shown_and_next.ShownAndNext.look_at_entries.Goals as goal
 
 pub loop-k-init : goal.loop-k-init
-loop-k-init c = record { limit = c.look_along.ensures.limit; left = all_left _ c.requires.entries; numbers = λ j l. absurd (omega (arith, l)); around = record { values = c.look_along.ensures.around.values; begins = c.look_along.ensures.around.begins; ends = c.look_along.ensures.around.ends }; written = refl }
+loop-k-init g c = record { limit = c.look_along.ensures.limit; left = all_left _ c.requires.entries; numbers = λ j l. absurd (omega (arith, l)); around = record { values = c.look_along.ensures.around.values; begins = c.look_along.ensures.around.begins; ends = c.look_along.ensures.around.ends }; written = refl }
 
 pub look_at-requires-clause-before : goal.look_at-requires-clause-before
-look_at-requires-clause-before c = c.loop-k.invariant.around
+look_at-requires-clause-before g c = c.loop-k.invariant.around
 
 pub loop-k-preserved : goal.loop-k-preserved
-loop-k-preserved c = record {
+loop-k-preserved g c = record {
   limit = c.look_at.ensures.limit ∙ c.loop-k.invariant.limit;
   left = c.take_number.ensures.left _ c.loop-k.invariant.left;
   numbers = λ j l. elim (cases_eq j c.loop-k.k) [

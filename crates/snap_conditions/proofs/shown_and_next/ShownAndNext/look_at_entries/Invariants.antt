@@ -5,7 +5,7 @@ use Rattle.snap_views.specs.Rows.{number_among}
 use Rattle.snap_conditions.proofs.shown_and_next.ShownAndNext.look_at_entries.Given as goal
 
 abbrev pub invariant-loop-k : goal.invariant-loop-k
-invariant-loop-k l = record {
+invariant-loop-k g l = record {
   limit : l.self.limit ≡ l.fn.self.limit;
   left : AreFrom l.k l.entries l.left;
   numbers : (j : ℕ) → j < l.k → get_or l.self.numbers j 0 ≡ number_among l.entries j;

@@ -10,14 +10,14 @@ use Rattle.snap_conditions.proofs.NoUpdates.{none_of_none}
 use Rattle.snap_conditions.proofs.shown_and_next.ShownAndNext.new.Goals as goal
 
 pub loop-k-init : goal.loop-k-init
-loop-k-init c = record {
+loop-k-init g c = record {
   size = refl;
   ends = λ q l. absurd (omega (arith, l));
   never = λ q l m. get_or-replicate {A = ℕ} 256 q 4294967295 0 m;
 }
 
 pub returns : goal.returns
-returns c =
+returns g c =
     let es = c.args.index.now in
     let calls = calls_of es in
     let limit = c.component_limit-limit.ensures in

@@ -11,4 +11,4 @@ got None xs i e f = sym (slice_get_past xs i (ltb-false i (length xs) (sym e)))
 got (Some x) xs i e f = ap Some f ∙ sym (slice_get-get_or xs i x.now (ltb-true i (length xs) (sym e)))
 
 pub returns : goal.returns
-returns c = rw (← c.self.view_is, ← c.deref.ensures.value) (got c.get.result c.deref.result.now c.args.i c.get.ensures.lookup.0 c.get.ensures.lookup.1)
+returns g c = rw (← c.self.view_is, ← c.deref.ensures.value) (got c.get.result c.deref.result.now c.args.i c.get.ensures.lookup.0 c.get.ensures.lookup.1)

@@ -4,4 +4,4 @@ use Rattle.snap_index.specs.inside.Tables.{AreTables}
 use Rattle.snap_index.proofs.index.Index.build.Given as goal
 
 abbrev pub invariant-loop-c : goal.invariant-loop-c
-invariant-loop-c l = AreTables (take l.c (calls_of l.history.events)) l.views.items l.updates l.pending
+invariant-loop-c g l = AreTables (take l.c (calls_of l.history.events)) l.views.items l.updates l.pending

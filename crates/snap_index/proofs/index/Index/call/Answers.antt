@@ -7,7 +7,7 @@ use Rattle.snap_index.proofs.LookUps.{seen}
 use Rattle.snap_index.proofs.index.Index.call.Goals as goal
 
 pub returns : goal.returns
-returns c =
+returns g c =
     let i = seen _ _ _ _ _ _ c.self.view_is c.self.invariant in
     got c.deref.result.now c.get.result c.args.c c.get.ensures.lookup.0 c.get.ensures.lookup.1
     ∙ ap (λ z. slice_get z c.args.c) (c.deref.ensures.value ∙ i.indexed_calls)

@@ -7,7 +7,7 @@ use Rattle.snap_index.proofs.LookUps.{seen}
 use Rattle.snap_index.proofs.index.Index.precedes.Goals as goal
 
 pub returns-in-Some : goal.returns-in-Some
-returns-in-Some c =
+returns-in-Some g c =
     let es = c.args.self.now in
     let calls = (seen _ _ _ _ _ _ c.self.view_is c.self.invariant).indexed_calls in
     let count = count_is es c.self.inside.calls.items calls in
@@ -17,7 +17,7 @@ returns-in-Some c =
     ∙ sym (precedes_at (call_numbered (calls_of es) c.args.a) (call_numbered (calls_of es) c.args.b) c.in-Some.ended (sym (ap (λ (z : Call). z.ended) a) ∙ c.in-Some.is))
 
 pub returns-in-None : goal.returns-in-None
-returns-in-None c =
+returns-in-None g c =
     let es = c.args.self.now in
     let calls = (seen _ _ _ _ _ _ c.self.view_is c.self.invariant).indexed_calls in
     let count = count_is es c.self.inside.calls.items calls in

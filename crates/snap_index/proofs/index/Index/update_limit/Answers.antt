@@ -4,7 +4,7 @@ use Rattle.snap_index.proofs.LookUps.{row_is, seen}
 use Rattle.snap_index.proofs.index.Index.update_limit.Goals as goal
 
 pub returns : goal.returns
-returns c =
+returns g c =
     let i = seen _ _ _ _ _ _ c.self.view_is c.self.invariant in
     record {
       few = c.limit.ensures.few;

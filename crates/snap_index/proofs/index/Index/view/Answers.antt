@@ -7,12 +7,12 @@ use Rattle.snap_index.proofs.LookUps.{kept_at, seen}
 use Rattle.snap_index.proofs.index.Index.view.Goals as goal
 
 pub returns-in_err-get : goal.returns-in_err-get
-returns-in_err-get c =
+returns-in_err-get g c =
     let i = seen _ _ _ _ _ _ c.self.view_is c.self.invariant in
     ap option_copied c.from_residual.ensures
     ∙ kept_at entries_shown entries_kept (calls_of c.args.self.now) _ _ c.args.i c.get.result _ i.tables.of_shown c.deref.ensures.value c.get.ensures.lookup.0 c.get.ensures.lookup.1 c.in_err-get.was
 
 pub returns : goal.returns
-returns c =
+returns g c =
     let i = seen _ _ _ _ _ _ c.self.view_is c.self.invariant in
     kept_at entries_shown entries_kept (calls_of c.args.self.now) _ _ c.args.i c.get.result _ i.tables.of_shown c.deref.ensures.value c.get.ensures.lookup.0 c.get.ensures.lookup.1 c.in_ok-get.was

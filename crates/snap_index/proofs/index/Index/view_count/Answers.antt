@@ -8,10 +8,10 @@ use Rattle.snap_index.proofs.LookUps.{views_few, seen}
 use Rattle.snap_index.proofs.index.Index.view_count.Goals as goal
 
 pub overflow_cast-result : goal.overflow_cast-result
-overflow_cast-result c = word_fits c.len.result (omega (arith, views_few _ _ _ _ _ c.self.invariant, c.len.ensures))
+overflow_cast-result g c = word_fits c.len.result (omega (arith, views_few _ _ _ _ _ c.self.invariant, c.len.ensures))
 
 pub returns : goal.returns
-returns c =
+returns g c =
     let i = seen _ _ _ _ _ _ c.self.view_is c.self.invariant in
     let count = sym (length-map c.self.inside.views.items number_kept) ∙ ap length i.tables.of_views ∙ length-map (views_of (calls_of c.args.self.now)) number_of in
     omega (arith, c.len.ensures, count)

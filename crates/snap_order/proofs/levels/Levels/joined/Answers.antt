@@ -6,7 +6,7 @@ use Rattle.snap_order.proofs.Blocks.{all_between, block_joined, blocks_before, l
 use Rattle.snap_order.proofs.levels.Levels.joined.Goals as goal
 
 pub loop-part-preserved : goal.loop-part-preserved
-loop-part-preserved c =
+loop-part-preserved g c =
     let calls = calls_of c.args.self.now in
     let all = length calls in
     let blocks = c.args.blocks in
@@ -26,7 +26,7 @@ loop-part-preserved c =
     }
 
 pub loop-part-init : goal.loop-part-init
-loop-part-init c =
+loop-part-init g c =
     let calls = calls_of c.args.self.now in
     let all = length calls in
     let whole : block_start c.args.blocks (length (vec_items c.args.parts)) all ≡ all = ap (λ n. block_start c.args.blocks n all) c.requires.count ∙ ends_whole all c.args.blocks c.requires.some in
@@ -37,7 +37,7 @@ loop-part-init c =
     }
 
 pub returns : goal.returns
-returns c =
+returns g c =
     let calls = calls_of c.args.self.now in
     let all = length calls in
     let none : vec_items c.loop-part.parts ≡ [] = search rules in

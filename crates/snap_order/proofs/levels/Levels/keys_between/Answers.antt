@@ -1,13 +1,10 @@
-use Rattle.std.proofs.Common.{◌≡◌, ◌<◌, ◌+◌, ◌∙◌, ◌++◌, ◌∷◌, [], cond, Bool, true, false, ℕ, List, Some, None, length, map, take, refl, sym, ap, subst, vec_items, arith}
-use Rattle.std.specs.List.{filter}
-use Rattle.std.proofs.lemmas.List.{map-append, append-nil, take_more}
-use Rattle.std.proofs.lemmas.List.Elements.{filter-append}
-use Rattle.snap_core.specs.declared.event.Event.{Event}
+use Rattle.std.proofs.Common.{◌≡◌, ◌<◌, ◌+◌, ◌∙◌, ◌++◌, ◌∷◌, [], cond, Bool, true, false, ℕ, List, Some, None, length, map, refl, sym, ap, subst, vec_items, arith}
+use Rattle.std.proofs.lemmas.List.{append-nil}
 use Rattle.snap_core.specs.Calls.{Call, calls_of, call_numbered, nobody}
 use Rattle.snap_core.proofs.Histories.{numbered_calls}
 use Rattle.snap_theory.specs.Levels.{rank, is_printed}
 use Rattle.snap_theory.specs.Keys.{key_of, rank_of}
-use Rattle.snap_core.specs.Events.{IsBoundedHistory}
+use Rattle.snap_core.specs.Bounded.{IsBoundedOrdered}
 use Rattle.snap_views.proofs.Sizes.{few_views}
 use Rattle.snap_order.specs.inside.Blocks.{keys_between}
 use Rattle.snap_order.proofs.Blocks.{none_between, one_more}
@@ -31,7 +28,7 @@ unranked calls c h = at (is_printed calls c) refl
     at false e = e
 
 pub loop-number-preserved : goal.loop-number-preserved
-loop-number-preserved c =
+loop-number-preserved g c =
     let es = c.args.self.now in
     let calls = calls_of es in
     let i = c.loop-number.number in
@@ -50,15 +47,15 @@ loop-number-preserved c =
     record { low = omega (arith, c.loop-number.invariant.low); high = omega (arith, c.loop-number-test.true); keys = made }
 
 pub overflow_add-views : goal.overflow_add-views
-overflow_add-views c =
+overflow_add-views g c =
     let es = c.args.self.now in
     let within = (view_of_number es c.loop-number.views c.loop-number.number (c.is_view_at.ensures.0 c.if-is_view_at.true)).0 in
-    word_fits (c.loop-number.views + 1) (omega (arith, within, few_views es (subst IsBoundedHistory c.self.view_is c.self.invariant.kept)))
+    word_fits (c.loop-number.views + 1) (omega (arith, within, few_views es (subst IsBoundedOrdered c.self.view_is c.self.invariant.kept)))
 
 pub loop-number-init : goal.loop-number-init
-loop-number-init c = record { low = omega arith; high = c.requires.order; keys = c.in_ok-keys.ensures.items ∙ sym (none_between (calls_of c.args.self.now) c.args.from) }
+loop-number-init g c = record { low = omega arith; high = c.requires.order; keys = c.in_ok-keys.ensures.items ∙ sym (none_between (calls_of c.args.self.now) c.args.from) }
 
 pub returns : goal.returns
-returns c =
+returns g c =
     let end : c.loop-number.number ≡ c.args.to = omega (arith, c.loop-number.invariant.high, c.loop-number-test.false) in
     c.loop-number.invariant.keys ∙ ap (keys_between (calls_of c.args.self.now) c.args.from) end

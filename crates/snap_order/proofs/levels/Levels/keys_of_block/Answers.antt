@@ -8,16 +8,16 @@ use Rattle.snap_views.proofs.Pieces.{starts_grow}
 use Rattle.snap_order.proofs.levels.Levels.keys_of_block.Goals as goal
 
 pub keys_between-requires-clause-order : goal.keys_between-requires-clause-order
-keys_between-requires-clause-order c =
+keys_between-requires-clause-order g c =
     let grow = starts_grow c.args.block (c.args.block + 1) c.call_count-calls.result c.args.blocks (omega (arith, c.requires)) (omega arith) in
     omega (arith, grow, c.start_of-from.ensures.start, c.start_of-to.ensures.start)
 
 pub keys_between-requires-clause-calls : goal.keys_between-requires-clause-calls
-keys_between-requires-clause-calls c =
+keys_between-requires-clause-calls g c =
     omega (arith, c.start_of-to.ensures.inside, c.call_count-calls.ensures, ap (λ (z : List Event). length (calls_of z)) c.self.view_is)
 
 pub returns : goal.returns
-returns c =
+returns g c =
     let calls = calls_of c.args.self.now in
     let blocks = c.args.blocks in
     let count = c.call_count-calls.ensures ∙ ap (λ (z : List Event). length (calls_of z)) c.self.view_is in

@@ -13,7 +13,7 @@ use Rattle.snap_order.proofs.Searches.{chain_length, numbers_rise, update_place}
 use Rattle.snap_order.proofs.levels.Levels.update_level.Goals as goal
 
 pub returns-clause-level : goal.returns-clause-level
-returns-clause-level c =
+returns-clause-level g c =
     let es = c.self.inside.index.now in
     let chain = c.self.inside.chain.items in
     let test : ℕ → Bool = λ place. nat_lt (shown_number (view_in (calls_of es) place) c.args.entry.component) c.args.entry.number in
@@ -23,12 +23,12 @@ returns-clause-level c =
     ∙ ap (count_by test) c.deref.ensures.value ∙ update_place (calls_of es) chain c.self.invariant.chain c.args.entry ∙ ap (λ (z : List Event). update_level (calls_of z) c.args.entry) c.self.view_is
 
 pub returns-clause-few : goal.returns-clause-few
-returns-clause-few c =
+returns-clause-few g c =
     let views = ap (λ (z : List Event). length (views_of (calls_of z))) c.self.view_is in
     let size = chain_length (calls_of c.self.inside.index.now) c.self.inside.chain.items c.self.invariant.chain in
     omega (arith, c.partition_near.ensures.bound, ap length c.deref.ensures.value, size, views)
 
 pub overflow_cast-result : goal.overflow_cast-result
-overflow_cast-result c =
+overflow_cast-result g c =
     let size = chain_length (calls_of c.self.inside.index.now) c.self.inside.chain.items c.self.invariant.chain in
     word_fits c.partition_near.result (omega (arith, c.partition_near.ensures.bound, ap length c.deref.ensures.value, size, few_views c.self.inside.index.now c.self.invariant.kept))

@@ -12,7 +12,7 @@ use Rattle.snap_order.proofs.Searches.{chain_length, sums_rise_by, sum_place}
 use Rattle.snap_order.proofs.levels.Levels.view_level.Goals as goal
 
 pub returns-clause-level : goal.returns-clause-level
-returns-clause-level c =
+returns-clause-level g c =
     let calls = calls_of c.self.inside.index.now in
     let chain = c.self.inside.chain.items in
     let sums = c.self.inside.sums.items in
@@ -25,12 +25,12 @@ returns-clause-level c =
     ∙ ap (λ (z : List Event). count_by (λ s. nat_lt (shown_sum s) sum) (views_of (calls_of z))) c.self.view_is
 
 pub returns-clause-few : goal.returns-clause-few
-returns-clause-few c =
+returns-clause-few g c =
     let views = ap (λ (z : List Event). length (views_of (calls_of z))) c.self.view_is in
     let size = chain_length (calls_of c.self.inside.index.now) c.self.inside.chain.items c.self.invariant.chain in
     omega (arith, c.partition_near.ensures.bound, ap length c.deref.ensures.value, size, views)
 
 pub overflow_cast-result : goal.overflow_cast-result
-overflow_cast-result c =
+overflow_cast-result g c =
     let size = chain_length (calls_of c.self.inside.index.now) c.self.inside.chain.items c.self.invariant.chain in
     word_fits c.partition_near.result (omega (arith, c.partition_near.ensures.bound, ap length c.deref.ensures.value, size, few_views c.self.inside.index.now c.self.invariant.kept))

@@ -23,7 +23,7 @@ returns-in-Some-clause-refused c = λ before since h whole.
     let both = accepted_back before since x h.quiet whole in
     let found = sym (c.refusal.ensures before h.left (history_of judge before since h).single_writer) ∙ c.in-Some.is in
     let accepted : IsAccepted judge.window.events c.in-Ok.renumbered = rw (h.window, is) both.0 in
-    inl (refused_for_length judge.window.limit judge.window.events c.in-Ok.renumbered before x c.in-Some.refusal accepted both.1 found)
+    inl (refused_for_length judge.window.limit judge.window.events c.in-Ok.renumbered before x c.in-Some.refusal h.one_writer accepted both.1 found)
 
 pub returns-in-Some-clause-most : goal.returns-in-Some-clause-most
 returns-in-Some-clause-most c = λ before since h why.
@@ -37,7 +37,7 @@ returns-in-Err-clause-refused c = λ before since h whole.
     let judge = c.args.self.now in
     let none = none_of c.refusal.result c.in_default-refusal.not-Some in
     let found = sym (c.refusal.ensures before h.left (history_of judge before since h).single_writer) ∙ none in
-    let f = free judge.window.limit judge.window.events c.in-Ok.renumbered before c.args.event.now found in
+    let f = free judge.window.limit judge.window.events c.in-Ok.renumbered before c.args.event.now h.one_writer found in
     elim c.in-Err.ensures.reason [
       | inl q ↦ absurd (let g = sym f.none ∙ q in cc)
       | inr m ↦ inr m
@@ -48,7 +48,7 @@ returns-in-Err-clause-most c = λ before since h why.
     let judge = c.args.self.now in
     let none = none_of c.refusal.result c.in_default-refusal.not-Some in
     let found = sym (c.refusal.ensures before h.left (history_of judge before since h).single_writer) ∙ none in
-    let f = free judge.window.limit judge.window.events c.in-Ok.renumbered before c.args.event.now found in
+    let f = free judge.window.limit judge.window.events c.in-Ok.renumbered before c.args.event.now h.one_writer found in
     elim c.in-Err.ensures.reason [
       | inl q ↦ absurd (let g = sym f.none ∙ q in cc)
       | inr m ↦ absurd (let g = sym m ∙ why in cc)
@@ -64,7 +64,7 @@ returns-clause-taken c = λ before since h.
     let is = known judge before since x c.in-Ok.renumbered h c.in-Ok.ensures in
     let none = none_of c.refusal.result c.in_default-refusal.not-Some in
     let found = sym (c.refusal.ensures before h.left (history_of judge before since h).single_writer) ∙ none in
-    let f : IsFree judge.window.limit judge.window.events (renumbered_event (left_by before) x) before x = rw (← is) (free judge.window.limit judge.window.events c.in-Ok.renumbered before x found) in
+    let f : IsFree judge.window.limit judge.window.events (renumbered_event (left_by before) x) before x = rw (← is) (free judge.window.limit judge.window.events c.in-Ok.renumbered before x h.one_writer found) in
     let pushed : c.push.new.self.events ≡ judge.window.events ++ renumbered_event (left_by before) x ∷ [] = search (is, rules) in
     let missed = c.missed_by-missed.ensures (left_by before) (left_is_last judge.left before h.left) in
     more judge c.note.new.last c.push.new.self _ before since x h f c.fits.ensures (c.note.ensures (before ++ since) h.last) pushed c.in_default-push.ensures.limit

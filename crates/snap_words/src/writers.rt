@@ -1,0 +1,28 @@
+//! How many processes may write a component, and the word for it.
+ghost use Rattle.std.specs.Prelude.{◌≡◌, Some, codes};
+ghost use Rattle.clap.specs.Words.{first_of, found_of, rows_of};
+ghost use Rattle.snap_words.specs.Limits.{SaysWriters, writers_text};
+
+use clap::ArgMatches;
+use snap_core::Writers;
+
+// How many writers a word names, or nothing if it is not known.
+fn writers_of(word: &str) -> Option<Writers>
+    ensures given { (writers : Writers) → word.now ≡ writers_text writers → result ≡ Some writers }
+{
+    match word {
+        "one" => Some(Writers::One),
+        "many" => Some(Writers::Many),
+        _ => None,
+    }
+}
+
+/// How many processes may write a component: one, if the options don't say it. Nothing if the word is not known.
+pub(crate) fn writers_in(matches: &ArgMatches<'_>) -> Option<Writers>
+    ensures given { (writers : Writers) → SaysWriters (first_of (codes "writers") (rows_of (found_of matches.now))) writers → result ≡ Some writers }
+{
+    match matches.get_str("writers") {
+        Some(word) => writers_of(word),
+        None => Some(Writers::One),
+    }
+}

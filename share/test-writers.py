@@ -1,0 +1,213 @@
+#!/usr/bin/env python3
+"""Compares the program with a judge that tries all orders, on small histories whose components have many writers.
+
+usage: test-writers.py PROGRAM [HISTORIES [SEED]]
+
+A history is a list of calls: updates of two components by any process, which may overlap, and views. Its updates are numbered as they
+begin. In most of them they end in the order of their numbers, and the program must judge these. Each other one is refused at the first
+end out of order. The judge here knows the definitions alone: it goes through all orders of the calls. An order that the program prints
+must be one of them. Some of the histories are also explained, drawn, counted and cut down. A witness has one writer of each component,
+so it is judged without the option. There are 3,000 histories, or as many as are asked for.
+"""
+import collections
+import itertools
+import os
+import random
+import subprocess
+import sys
+import tempfile
+
+HISTORIES, ASKED, BATCH, COMPONENTS, PROCESSES = 3000, 120, 3000, 2, 4
+SEED = 20261201
+NEVER = 1 << 30
+
+
+def history(rng):
+    """The records of a history, its calls, and the number of the first record that ends an update out of order, or None."""
+    records, calls, open_calls, count = [], [], {}, [0] * COMPONENTS
+    orderly, out_of_order = rng.random() < 0.85, None
+    for _ in range(rng.randint(4, 18)):
+        process = rng.randrange(PROCESSES)
+        at = len(records)
+        if process not in open_calls:
+            component = rng.randrange(COMPONENTS)
+            call = {"process": process, "begun": at, "ended": NEVER, "shown": None}
+            if rng.random() < 0.6:
+                count[component] += 1
+                call["update"] = (component, count[component], component * 100 + count[component])
+                records.append("begin,%d,update,%d:%d:%d" % (process, *call["update"]))
+            else:
+                call["update"] = None
+                records.append("begin,%d,view," % process)
+            open_calls[process] = call
+            calls.append(call)
+            continue
+        call = open_calls[process]
+        if call["update"]:
+            component, number, _ = call["update"]
+            early = any(it["update"] and it["update"][0] == component and it["update"][1] < number and it["ended"] == NEVER for it in calls)
+            if early and orderly:
+                continue
+            if early and out_of_order is None:
+                out_of_order = at + 2
+            records.append("end,%d,update," % process)
+        else:
+            shown = {}
+            for component in range(COMPONENTS):
+                number = min(count[component], max(0, count[component] - rng.choice([0, 0, 0, 1, 1, 2, 3]) + rng.choice([0] * 9 + [1])))
+                if number:
+                    shown[component] = (number, component * 100 + number + (rng.random() < 0.03))
+            call["shown"] = shown
+            records.append("end,%d,view,%s" % (process, " ".join("%d:%d:%d" % (k, *shown[k]) for k in shown)))
+        call["ended"] = at
+        del open_calls[process]
+    return records, calls, out_of_order
+
+
+def explains(order, rises=True):
+    """Whether each view shows the last updates before it, and the numbers of each component rise, if they must."""
+    last = {}
+    for call in order:
+        if call["update"]:
+            component, number, value = call["update"]
+            if rises and number <= last.get(component, (0, 0))[0]:
+                return False
+            last[component] = (number, value)
+        elif call["shown"] != last:
+            return False
+    return True
+
+
+def keeps_precedence(order):
+    return not any(late["ended"] < early["begun"] for early, late in itertools.combinations(order, 2))
+
+
+def is_legal(order, calls):
+    """Whether an order of all completed calls and some pending updates keeps precedence and explains the views."""
+    return all(it in order for it in calls if it["ended"] < NEVER) and keeps_precedence(order) and explains(order)
+
+
+def is_atomic(calls, rises=True):
+    """Whether there is such an order: all are tried, call by call. The numbers of a component may fall in it, if they need not rise."""
+    pending = [it for it in calls if it["ended"] == NEVER and it["update"]]
+    done = [it for it in calls if it["ended"] < NEVER]
+
+    def goes_on(order, left):
+        if not explains(order, rises):
+            return False
+        return not left or any(
+            goes_on([*order, it], [other for other in left if other is not it])
+            for it in left
+            if not any(other["ended"] < it["begun"] for other in left)
+        )
+
+    return any(goes_on([], [*done, *some]) for size in range(len(pending) + 1) for some in itertools.combinations(pending, size))
+
+
+def is_regular(calls):
+    """Whether each view shows of each component neither an older update than the last that precedes it, nor one begun after it."""
+    updates = [it for it in calls if it["update"]]
+    for view in calls:
+        if view["shown"] is None:
+            continue
+        for component in range(COMPONENTS):
+            number, value = view["shown"].get(component, (0, 0))
+            if number and not any(it["update"] == (component, number, value) and it["begun"] < view["ended"] for it in updates):
+                return False
+            if any(it["update"][0] == component and it["update"][1] > number and it["ended"] < view["begun"] for it in updates):
+                return False
+    return True
+
+
+def is_monotone(calls):
+    views = [it for it in calls if it["shown"] is not None]
+    return not any(
+        early["ended"] < late["begun"] and early["shown"].get(component, (0, 0))[0] > late["shown"].get(component, (0, 0))[0]
+        for early in views
+        for late in views
+        for component in range(COMPONENTS)
+    )
+
+
+def fault(report, calls, out_of_order):
+    """What is wrong with a report, or None."""
+    if out_of_order:
+        return None if report == [f"refused record {out_of_order}: order"] else f"not refused at record {out_of_order}"
+    yes = {True: "yes", False: "no"}
+    verdicts = [f"regular {yes[is_regular(calls)]}", f"monotone {yes[is_monotone(calls)]}", f"atomic {yes[is_atomic(calls)]}"]
+    if report[1:4] != verdicts:
+        return f"not {verdicts}"
+    if report[3] != "atomic yes":
+        return None
+    order = [calls[int(line.split()[0]) - 1] for line in report[5:]]
+    return None if is_legal(order, calls) and len(order) == int(report[4].split()[1]) else "an order that is not legal"
+
+
+def asked(program, room, name, status, updates):
+    """What is wrong with the other answers about a history, or None."""
+
+    def run(*words, text=None):
+        return subprocess.run([program, *words], cwd=room, input=text, capture_output=True, text=True, check=False)
+
+    for words in (["explain"], ["draw", "--svg"], ["shrink"]):
+        if run(*words, "--writers", "many", name).returncode != status:
+            return f"{words[0]} has another status than {status}"
+    counts = run("stats", "--writers", "many", name)
+    if counts.returncode != (3 if status == 3 else 0) or status < 3 and f"updates {updates}\n" not in counts.stdout:
+        return "stats counts otherwise"
+    witness = run("shrink", "--writers", "many", name).stdout
+    if status in (1, 2) and (run("check", text=witness).returncode != status or witness.count("\n") > 9):
+        return "the witness does not show the fault"
+    return None
+
+
+def reports_of(program, room, histories):
+    """What the program says of each history, in lines."""
+    names = [f"{place}.csv" for place in range(len(histories))]
+    for name, (records, _, _) in zip(names, histories):
+        with open(os.path.join(room, name), "w", encoding="ascii") as out:
+            out.write("\n".join(["event,process,op,data", *records, ""]))
+    run = subprocess.run([program, "check", "--writers", "many", *names], cwd=room, capture_output=True, text=True, check=False)
+    reports = {name: [] for name in names}
+    for line in run.stdout.splitlines():
+        name, _, rest = line.partition(": ")
+        reports[name].append(rest)
+    return reports.items()
+
+
+def kinds_of(report, calls, out_of_order):
+    """What a report says of a history, and whether the history is atomic by falling numbers alone."""
+    yield report[3] if len(report) > 3 else report[0].rpartition(" ")[2] if report else "nothing"
+    if not out_of_order and is_atomic(calls, False) and not is_atomic(calls):
+        yield "atomic by falling numbers alone"
+
+
+def main(program, count=HISTORIES, seed=SEED):
+    rng = random.Random(seed)
+    failed, judged, found = 0, 0, collections.Counter()
+    with tempfile.TemporaryDirectory() as room:
+        while judged < count:
+            histories = [history(rng) for _ in range(min(BATCH, count - judged))]
+            for (name, report), (records, calls, out_of_order) in zip(reports_of(program, room, histories), histories):
+                wrong = fault(report, calls, out_of_order)
+                if not wrong and judged < ASKED:
+                    status = 3 if out_of_order else 0 if is_atomic(calls) else 1 if is_regular(calls) else 2
+                    wrong = asked(program, room, name, status, sum(it["update"] is not None for it in calls))
+                judged += 1
+                found.update(kinds_of(report, calls, out_of_order))
+                if wrong:
+                    failed += 1
+                    print(f"{name}: {wrong}\n" + "\n".join([*records, *report]))
+    # a comparison of histories of one kind would show little, and so would one without falling numbers
+    for kind in ("atomic yes", "atomic no", "order", "atomic by falling numbers alone"):
+        if found[kind] < 20:
+            failed += 1
+            print(f"too few histories are {kind}: {found[kind]}")
+    print(f"{judged - failed} passed, {failed} failed")
+    return failed > 0
+
+
+if __name__ == "__main__":
+    if not 2 <= len(sys.argv) <= 4:
+        sys.exit(__doc__)
+    sys.exit(main(os.path.abspath(sys.argv[1]), *map(int, sys.argv[2:])))
