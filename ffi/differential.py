@@ -6,14 +6,16 @@ usage: differential.py [TEXTS [OF_THEM_BY_THE_PROGRAM [SEED [DRIVER ..]]]]      
 Build first: ffi/build.sh and ./snapjudge. Each text is judged twice, with ample room and with just enough; the status has to be
 the one that the report says, and the bytes the same. Each other call of the library has to answer with the same status, and the counts
 with that of a history. Some texts the program answers too, each by one of its commands, which is drawn. A quarter of the texts
-are histories as they are generated, the others are damaged in one to eight places.
+are histories as they are generated, the others are damaged in one to eight places. Of half of the texts a component may have many
+writers. A quarter come from histories that have them: those of share/test-writers.py.
 
 The first texts are those of examples/, and the program answers them by each command. A driver answers each text by the wrapper of its language, as the
 library does. It reads the length of a text and the words of a command on a line, and then the text. It writes the status and the length
 of the answer on a line, and then the answer. The word `values` asks for the values of a text, written as its object, and below it the
-order of the report, or why it is not a history.
+order of the report, or why it is not a history. Where a component may have many writers, the words end with `--writers many`.
 """
 import glob
+import importlib
 import itertools
 import os
 import random
@@ -23,6 +25,8 @@ import sys
 HERE = os.path.dirname(os.path.abspath(__file__))
 sys.path.insert(0, os.path.join(HERE, "python"))
 import snapjudge  # noqa: E402
+sys.path.append(os.path.join(HERE, "..", "share"))
+test_writers = importlib.import_module("test-writers")
 
 PROGRAM = os.path.join(HERE, "..", "built", "snapjudge")
 HEADER = "event,process,op,data"
@@ -92,6 +96,11 @@ def history(draw):
     return [HEADER] + rows
 
 
+def history_of_many(draw):
+    """A history whose components have several writers, most of whose updates end in the order of their numbers."""
+    return [HEADER] + test_writers.history(draw)[0]
+
+
 def stamped(rows, draw):
     """The same history with a stamp before each record, the records in any order."""
     clock, found = 0, []
@@ -122,16 +131,26 @@ def damaged(text, draw):
     return bytes(text)
 
 
-def texts_of(draw):
+def texts_of(draw, drawn=history):
     """Texts without end: a history, and then the same damaged, three times."""
     while True:
-        rows = history(draw)
+        rows = drawn(draw)
         if draw.random() < 0.2:
             rows = stamped(rows, draw)
         text = "".join(row + "\n" for row in rows).encode()
         yield text
         for _ in range(3):
             yield damaged(text, draw)
+
+
+def texts_and_writers(draw):
+    """Texts without end, each with the word for how many writers a component may have."""
+    by_one, by_many = texts_of(draw), texts_of(draw, history_of_many)
+    while True:
+        yield next(by_one), "one"
+        yield next(by_one), "one"
+        yield next(by_one), "many"
+        yield next(by_many), "many"
 
 
 def examples():
@@ -187,17 +206,17 @@ class Program:
         return snapjudge.STATUSES[status], os.pread(self.answered, os.fstat(self.answered).st_size, 0)
 
 
-def by_library(text, call, option):
+def by_library(text, writers, call, option):
     """The status and the answer of the library by a call."""
     words = option if isinstance(option, tuple) else (option, len(option)) if isinstance(option, bytes) else option if isinstance(option, tuple) else (option,)
-    status, length = snapjudge.answer_into(call, text, words, ROOM)
+    status, length = snapjudge.answer_into(call, text, words, ROOM, writers=writers)
     return status, bytes(ROOM[:length])
 
 
-def by_calls(text, status, report):
+def by_calls(text, writers, status, report):
     """What the library answers by each call, by the words of its command."""
     found = {"check": (status, report.encode())}
-    return found | {" ".join(words): by_library(text, call, option) for call, option, words in CALLS}
+    return found | {" ".join(words): by_library(text, writers, call, option) for call, option, words in CALLS}
 
 
 def is_status(words, status, of_check):
@@ -205,58 +224,63 @@ def is_status(words, status, of_check):
     return status == ("atomic" if words.startswith("stats") and of_check != "refused" else of_check)
 
 
-def values(text, status, report):
+def values(text, writers, status, report):
     """The status of a text and its values, as a driver writes them."""
     below = b""
     if status == "refused":
-        below = by_library(text, "explain", 0)[1]
+        below = by_library(text, writers, "explain", 0)[1]
     elif status == "atomic":
         below = "".join(report.splitlines(True)[5:]).encode()
-    return status, by_library(text, "json", b"-")[1] + below
+    return status, by_library(text, writers, "json", b"-")[1] + below
 
 
-def differing_drivers(text, wanted, drivers):
+def differing_drivers(text, end, wanted, drivers):
     """The name of each driver that answers otherwise than the library, with the words of the command."""
     for driver in drivers:
         for words, answer in wanted.items():
-            if driver.answer(text, words) != answer:
+            if driver.answer(text, words + end) != answer:
                 yield f"{words} of {driver.path}"
 
 
-def wrong_answers(text, asked, program, drivers):
+def wrong_answers(text, writers, asked, program, drivers):
     """The status of a text, and the words of each command whose call is wrong. The program is asked by some commands."""
-    status, report = snapjudge.report(text)
+    end = "" if writers == "one" else f" --writers {writers}"
+    status, report = snapjudge.report(text, writers=writers)
     room = bytearray(len(report))
-    again = snapjudge.report_into(text, room)
+    again = snapjudge.report_into(text, room, writers=writers)
     same = again == (status, len(report)) and room.decode("ascii") == report and said(report) == status
-    answers = by_calls(text, status, report)
+    answers = by_calls(text, writers, status, report)
     wrong = [] if same else ["report"]
     wrong += [words for words, answer in answers.items() if not is_status(words, answer[0], status)]
-    wrong += [f"{words} of the program" for words in asked if program.answer(text, words.split()) != answers[words]]
+    wrong += [f"{words} of the program" for words in asked if program.answer(text, (words + end).split()) != answers[words]]
     if drivers:
-        wrong += differing_drivers(text, answers | {"values": values(text, status, report)}, drivers)
+        wrong += differing_drivers(text, end, answers | {"values": values(text, writers, status, report)}, drivers)
     return status, wrong
 
 
 def main():
     words = [int(word) for word in sys.argv[1:4]] + [1_000_000, 1_000_000, 1][len(sys.argv) - 1:]
     texts, programs, seed = words
-    program, drivers, first = Program(), [Driver(path) for path in sys.argv[4:]], list(examples())
+    program, drivers = Program(), [Driver(path) for path in sys.argv[4:]]
+    first = [(text, writers) for text in examples() for writers in snapjudge.WRITERS]
     commands = ["check"] + [" ".join(words) for _, _, words in CALLS]
     every, asked, differences, seen = (max(1, texts // max(1, programs)) - 1) | 1, 0, 0, dict.fromkeys(snapjudge.STATUSES, 0)
+    several = 0
     turns = random.Random(seed)
-    for i, text in zip(range(texts), itertools.chain(first, texts_of(random.Random(seed)))):
+    for i, (text, writers) in zip(range(texts), itertools.chain(first, texts_and_writers(random.Random(seed)))):
         words = commands if i < len(first) else [turns.choice(commands)] if asked < programs and i % every == 0 else []
         asked += len(words) > 0
-        status, wrong = wrong_answers(text, words, program, drivers)
+        status, wrong = wrong_answers(text, writers, words, program, drivers)
         seen[status] += 1
+        several += status != "refused" and snapjudge.report(text)[0] == "refused"
         if wrong:
             differences += 1
-            print(f"text {i} differs by {', '.join(wrong)}: {text!r}", flush=True)
+            print(f"text {i}, {writers} writers, differs by {', '.join(wrong)}: {text!r}", flush=True)
         if (i + 1) % 50_000 == 0:
             print(f"{i + 1} texts, {asked} of them by the program, {differences} differences", flush=True)
     counts = ", ".join(f"{status} {count}" for status, count in seen.items())
     print(f"{texts} texts ({counts}) through the library, {asked} of them through the program: {differences} differences")
+    print(f"{several} of the histories have a component with several writers")
     ends = [driver.end() for driver in drivers]
     return differences != 0 or any(ends)
 

@@ -10,7 +10,7 @@ expect "its version" 0 "snapjudge $version
 " "pre fix/bin/snapjudge" --version
 if has pkg-config "the library by pkg-config" && has cc "the library by pkg-config"; then
   expect "the library by what pkg-config tells" 0 "" sh -c 'flags=$(PKG_CONFIG_LIBDIR="$1/lib/pkgconfig" pkg-config --cflags --libs snapjudge) &&
-    cp "$2/ffi/c/test_examples.c" . && eval "cc -o caller test_examples.c $flags -pthread" &&
+    cp "$2/ffi/c/test_examples.c" "$2/ffi/c/test_questions.h" . && eval "cc -o caller test_examples.c $flags -pthread" &&
     LD_LIBRARY_PATH="$1/lib" ./caller "$2"/examples/*.csv >&2' sh "$room/pre fix" "$top"
   expect "the version that it tells" 0 "$version
 " env PKG_CONFIG_LIBDIR="$room/pre fix/lib/pkgconfig" pkg-config --modversion snapjudge

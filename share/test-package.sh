@@ -117,7 +117,7 @@ calls_from_c() {
   [ "$(PKG_CONFIG_LIBDIR=$1/lib/pkgconfig pkg-config --modversion snapjudge)" = "$version" ] || return
   (
     # beside its own header the caller would not take that of the prefix
-    cp ffi/c/test_examples.c "$room" && cd "$room" || exit
+    cp ffi/c/test_examples.c ffi/c/test_questions.h "$room" && cd "$room" || exit
     cc -std=c11 -O1 $flags -o shared test_examples.c $libraries -pthread &&
       LD_LIBRARY_PATH=$1/lib ./shared "$top"/examples/*.csv || exit
     env -u LD_LIBRARY_PATH ./shared "$top"/examples/*.csv
@@ -209,7 +209,10 @@ judges_tests() {
   rm -rf "$room/tested"
   python3 -m pip install -q --no-index --disable-pip-version-check --root-user-action=ignore --target "$room/tested" "$wheel" || return
   (cd "$room/tested" && cat >test_boards.py <<'PYTHON'
-from snapjudge.testing import assert_atomic
+import pytest
+from snapjudge.testing import NotAtomic, assert_atomic
+
+TWO_WRITERS = "event,process,op,data\nbegin,0,update,0:1:5\nbegin,1,update,0:2:6\nend,0,update,\nend,1,update,\n"
 
 def test_right(recording):
     recorder = recording(1, 1, 2)
@@ -229,11 +232,16 @@ def test_old(recording):
 
 def test_stale():
     assert_atomic(open(EXAMPLE), views=2)
+
+def test_two_writers():
+    with pytest.raises(NotAtomic, match="proximity: view 3 shows 0:1, though update 0:2 had ended"):
+        assert_atomic(TWO_WRITERS + "begin,2,view,\nend,2,view,0:1:5\n", out="caught", name="two", writers="many")
+    assert_atomic(TWO_WRITERS, views=0, writers="many")
 PYTHON
   sed -i "s,EXAMPLE,'$top/examples/stale-view.csv'," test_boards.py
   env -u SNAPJUDGE_LIBRARY PYTHONPATH=. "$1" -B -m pytest -q --snapjudge-out caught test_boards.py >said
-  [ $? = 1 ] && grep -q '^2 passed, 1 error\|1 failed, 2 passed, 1 error' said && grep -q 'proximity: view 2 shows 0:0, though update 0:1 had ended' said &&
-    grep -q 'begin,0,update,0:1:7' said && [ -s caught/test_old.csv ] && grep -q '<svg' caught/test_old.html)
+  [ $? = 1 ] && grep -q '^3 passed, 1 error\|1 failed, 3 passed, 1 error' said && grep -q 'proximity: view 2 shows 0:0, though update 0:1 had ended' said &&
+    grep -q 'begin,0,update,0:1:7' said && [ -s caught/test_old.csv ] && grep -q '<svg' caught/test_old.html && grep -q '<svg' caught/two.html)
 }
 
 # What docs/INSTALL.md says to do: the lines after `$` of a block of a section, which a machine without rt runs in DIST.

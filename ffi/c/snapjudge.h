@@ -27,12 +27,15 @@ enum {
     SNAPJUDGE_REFUSED = 3,   /* the text is not a history */
     SNAPJUDGE_NO_MEMORY = 4, /* memory ran out: nothing was written, *length is 0 */
     SNAPJUDGE_NO_ROOM = 5,   /* the answer does not fit: nothing was written, *length is how many bytes it has */
-    SNAPJUDGE_NO_LIMIT = 6,  /* no such limit of events exists: nothing was written, *length is 0 */
+    SNAPJUDGE_NO_LIMIT = 6,  /* events names no limit: nothing was written, *length is 0 */
     SNAPJUDGE_NO_OPTION = 7  /* an option is out of its range, or names a call that the history lacks: nothing was written, *length is 0 */
 };
 
 /* How many events a history may have by default. */
 enum { SNAPJUDGE_EVENTS = 65536 };
+
+/* Added to the events of a call, it lets a component have many writers, as `--writers many` does. */
+#define SNAPJUDGE_MANY_WRITERS 2147483648u
 
 /* The forms of an explanation: 0 for the sentences alone, one of these, or both together by |. */
 enum {
@@ -76,7 +79,8 @@ enum {
 uint32_t snapjudge_check(const uint8_t *text, size_t text_length, uint8_t *report, size_t room, size_t *report_length);
 
 /* Judges as snapjudge_check does, but a history may have this many events, from 1 to 1,048,576, in place of 65,536. Its text may
- * have 1,024 bytes for each of them. The answer is SNAPJUDGE_NO_LIMIT if events is not in that range. */
+ * have 1,024 bytes for each of them. If SNAPJUDGE_MANY_WRITERS is added to events, a component may have many writers. The answer is
+ * SNAPJUDGE_NO_LIMIT if events, without SNAPJUDGE_MANY_WRITERS, is not in that range. */
 uint32_t snapjudge_check_limit(const uint8_t *text, size_t text_length, uint32_t events, uint8_t *report, size_t room, size_t *report_length);
 
 /* Each of the next six answers as snapjudge_check_limit does, and writes what a command of the program writes in place of the

@@ -102,6 +102,8 @@ static int is_right(const struct example *e, int q) {
     return is_answered(&asked, e, q) && fits(&asked, e, q, needed + 64) && fits(&asked, e, q, needed) && fits(&asked, e, q, needed - 1) &&
            fits(&asked, e, q, 0) && is_refused(asked, e, 0, asked.option, SNAPJUDGE_NO_LIMIT) &&
            is_refused(asked, e, 1048577, asked.option, SNAPJUDGE_NO_LIMIT) &&
+           is_refused(asked, e, SNAPJUDGE_MANY_WRITERS, asked.option, SNAPJUDGE_NO_LIMIT) &&
+           is_refused(asked, e, SNAPJUDGE_MANY_WRITERS + 1048577, asked.option, SNAPJUDGE_NO_LIMIT) &&
            (!has_option || (is_refused(asked, e, SNAPJUDGE_EVENTS, most + 1, SNAPJUDGE_NO_OPTION) &&
                             is_refused(asked, e, SNAPJUDGE_EVENTS, UINT32_MAX, SNAPJUDGE_NO_OPTION))) &&
            (asked.command != SNAPJUDGE_EXPLAIN_FAULTS || is_bounded(asked, e));

@@ -1,5 +1,6 @@
-/* Judges each history NAME.csv that is named, in 8 threads of 128 KiB of stack at once, and compares with NAME.report. C or C++. */
-#include "snapjudge.h"
+/* Judges each history NAME.csv that is named, in 8 threads of 128 KiB of stack at once, and compares with NAME.report. Each call is asked
+ * of a component with two writers too, whose answers were worked by hand. C or C++. */
+#include "test_questions.h"
 #include <pthread.h>
 #include <stdio.h>
 #include <string.h>
@@ -15,6 +16,25 @@ struct example {
 
 static struct example examples[64];
 static int count;
+
+#define TWO_WRITERS "event,process,op,data\nbegin,0,update,0:1:5\nbegin,1,update,0:2:6\n"
+#define IN_ORDER TWO_WRITERS "end,0,update,\nend,1,update,\n"
+#define OUT_OF_ORDER TWO_WRITERS "end,1,update,\nend,0,update,\n"
+
+/* A history of two writers of a component with a number of events, and its status and report. */
+static const struct {
+    const char *text;
+    uint32_t events, status;
+    const char *report;
+} WRITERS[] = {
+    {IN_ORDER, 4, SNAPJUDGE_REFUSED, "refused record 3: writer\n"},
+    {IN_ORDER, SNAPJUDGE_MANY_WRITERS + 4, SNAPJUDGE_ATOMIC,
+     "events 4 calls 2 pending 0 views 0\nregular yes\nmonotone yes\natomic yes\norder 2\n1 p0 update 0:1:5\n2 p1 update 0:2:6\n"},
+    {OUT_OF_ORDER, SNAPJUDGE_MANY_WRITERS + SNAPJUDGE_EVENTS, SNAPJUDGE_REFUSED, "refused record 4: order\n"},
+    {IN_ORDER, SNAPJUDGE_MANY_WRITERS + 3, SNAPJUDGE_REFUSED, "refused record 5: toomany\n"},
+    {IN_ORDER, SNAPJUDGE_MANY_WRITERS, SNAPJUDGE_NO_LIMIT, ""},
+    {IN_ORDER, SNAPJUDGE_MANY_WRITERS + 1048577, SNAPJUDGE_NO_LIMIT, ""},
+};
 
 static char *read_file(const char *path, size_t *length) {
     FILE *file = fopen(path, "rb");
@@ -65,6 +85,26 @@ static int is_judged(const struct example *e) {
     return is_right;
 }
 
+/* How many questions about components with two writers are not answered as they must be. */
+static int wrong_by_writers(void) {
+    int wrong = 0, i, q;
+    for (i = 0; i < (int)(sizeof WRITERS / sizeof *WRITERS); i++) {
+        for (q = 0; q < QUESTIONS; q++) {
+            struct snapjudge_question asked = ASKED[q];
+            char *out;
+            size_t length;
+            asked.events = WRITERS[i].events;
+            if (snapjudge_ask_new(&asked, WRITERS[i].text, strlen(WRITERS[i].text), &out, &length) != WRITERS[i].status ||
+                (asked.command == SNAPJUDGE_CHECK && strcmp(out == NULL ? "" : out, WRITERS[i].report) != 0)) {
+                fprintf(stderr, "two writers, text %d: %s is not as it is to be\n", i, NAMES[q]);
+                wrong++;
+            }
+            free(out);
+        }
+    }
+    return wrong;
+}
+
 static void *judge_all(void *failures) {
     int round, i;
     for (round = 0; round < ROUNDS; round++) {
@@ -81,7 +121,7 @@ static void *judge_all(void *failures) {
 int main(int argc, char **argv) {
     pthread_t threads[THREADS];
     pthread_attr_t small;
-    int failures[THREADS] = {0}, all = 0, i;
+    int failures[THREADS] = {0}, all, i;
     for (i = 1; i < argc && count < 64; i++) {
         struct example *e = &examples[count++];
         char path[512];
@@ -92,6 +132,7 @@ int main(int argc, char **argv) {
         e->status = status_of(e->report);
     }
     if (snapjudge_version() != SNAPJUDGE_VERSION || count == 0) return 2;
+    all = wrong_by_writers();
     pthread_attr_init(&small);
     pthread_attr_setstacksize(&small, 128 * 1024);
     for (i = 0; i < THREADS; i++)

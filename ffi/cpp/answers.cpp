@@ -7,6 +7,7 @@ namespace {
 
 using snapjudge::Answer;
 using Text = std::string_view;
+using Events = std::uint32_t;
 
 // `"name":value` for each member, with commas between, in braces.
 std::string object(const std::vector<std::pair<std::string, std::string>> &members) {
@@ -97,8 +98,8 @@ std::string told(const snapjudge::ComponentStats &shown) {
 }
 
 // What a run has shown, written as the program writes its object.
-Answer stats(Text text) {
-    const auto shown = snapjudge::stats(text);
+Answer stats(Text text, Events events) {
+    const auto shown = snapjudge::stats(text, events);
     if (shown.refusal) return {snapjudge::Status::refused, told(*shown.refusal)};
     std::string components;
     for (const auto &component : shown.by_component) components += (components.empty() ? "" : ",") + told(component);
@@ -123,15 +124,15 @@ Answer stats(Text text) {
 }
 
 // The lines of what a run has shown. The program ends with 0, unless the text is not a history.
-Answer stats_lines(Text text) {
-    const std::string lines = snapjudge::stats_lines(text);
+Answer stats_lines(Text text, Events events) {
+    const std::string lines = snapjudge::stats_lines(text, events);
     return {lines.rfind("refused ", 0) == 0 ? snapjudge::Status::refused : snapjudge::Status::atomic, lines};
 }
 
 // The values of a text, written as the program writes them: its object, and below it the order of the report. Of a text that is not a
 // history they are the object and the sentences.
-Answer values(Text text) {
-    const auto judged = snapjudge::check(text);
+Answer values(Text text, Events events) {
+    const auto judged = snapjudge::check(text, events);
     if (judged.refusal) return {judged.status, told(*judged.refusal) + judged.refusal->sentences};
     const std::string verdicts = object({{"name", quoted("-")},
                                          {"status", number(static_cast<unsigned>(judged.status))},
@@ -149,34 +150,37 @@ Answer values(Text text) {
     return {judged.status, verdicts + "\n" + order(judged.order)};
 }
 
-Answer report(Text text) {
-    const auto judged = snapjudge::check(text);
+Answer report(Text text, Events events) {
+    const auto judged = snapjudge::check(text, events);
     return {judged.status, judged.report};
 }
 
-const std::map<std::string, Answer (*)(Text)> QUESTIONS = {
+const std::map<std::string, Answer (*)(Text, Events)> QUESTIONS = {
     {"check", report},
-    {"explain", [](Text text) { return snapjudge::explain(text); }},
-    {"explain --draw", [](Text text) { return snapjudge::explain(text, true); }},
-    {"explain --all", [](Text text) { return snapjudge::explain_all(text); }},
-    {"explain --all --draw", [](Text text) { return snapjudge::explain_all(text, true); }},
-    {"check --format json", [](Text text) { return snapjudge::json(text); }},
-    {"shrink", [](Text text) { return snapjudge::shrink(text); }},
-    {"shrink --draw", [](Text text) { return snapjudge::shrink(text, true); }},
-    {"shrink --map", [](Text text) { return snapjudge::shrink_map(text); }},
-    {"explain --faults 3", [](Text text) { return snapjudge::explain_faults(text, 3); }},
-    {"explain --all --faults 3", [](Text text) { return snapjudge::explain_faults(text, 3, true); }},
-    {"draw", [](Text text) { return snapjudge::draw(text); }},
-    {"draw --svg", [](Text text) { return snapjudge::draw(text, snapjudge::Form::svg); }},
-    {"draw --text", [](Text text) { return snapjudge::draw(text, snapjudge::Form::lines); }},
-    {"draw --light", [](Text text) { return snapjudge::draw(text, snapjudge::Form::light_page); }},
-    {"draw --dark", [](Text text) { return snapjudge::draw(text, snapjudge::Form::dark_page); }},
-    {"draw --svg --calls 5", [](Text text) { return snapjudge::draw(text, snapjudge::Part{5, 0, 0}, snapjudge::Form::svg); }},
-    {"draw --svg --dark", [](Text text) { return snapjudge::draw(text, snapjudge::Form::dark_svg); }},
+    {"explain", [](Text text, Events events) { return snapjudge::explain(text, false, events); }},
+    {"explain --draw", [](Text text, Events events) { return snapjudge::explain(text, true, events); }},
+    {"explain --all", [](Text text, Events events) { return snapjudge::explain_all(text, false, events); }},
+    {"explain --all --draw", [](Text text, Events events) { return snapjudge::explain_all(text, true, events); }},
+    {"check --format json", [](Text text, Events events) { return snapjudge::json(text, "-", events); }},
+    {"shrink", [](Text text, Events events) { return snapjudge::shrink(text, false, events); }},
+    {"shrink --draw", [](Text text, Events events) { return snapjudge::shrink(text, true, events); }},
+    {"shrink --map", [](Text text, Events events) { return snapjudge::shrink_map(text, events); }},
+    {"explain --faults 3", [](Text text, Events events) { return snapjudge::explain_faults(text, 3, false, events); }},
+    {"explain --all --faults 3", [](Text text, Events events) { return snapjudge::explain_faults(text, 3, true, events); }},
+    {"draw", [](Text text, Events events) { return snapjudge::draw(text, snapjudge::Form::page, events); }},
+    {"draw --svg", [](Text text, Events events) { return snapjudge::draw(text, snapjudge::Form::svg, events); }},
+    {"draw --text", [](Text text, Events events) { return snapjudge::draw(text, snapjudge::Form::lines, events); }},
+    {"draw --light", [](Text text, Events events) { return snapjudge::draw(text, snapjudge::Form::light_page, events); }},
+    {"draw --dark", [](Text text, Events events) { return snapjudge::draw(text, snapjudge::Form::dark_page, events); }},
+    {"draw --svg --calls 5", [](Text text, Events events) { return snapjudge::draw(text, snapjudge::Part{5, 0, 0}, snapjudge::Form::svg, events); }},
+    {"draw --svg --dark", [](Text text, Events events) { return snapjudge::draw(text, snapjudge::Form::dark_svg, events); }},
     {"stats", stats_lines},
     {"stats --format json", stats},
     {"values", values},
 };
+
+// The end of a command where a component may have many writers.
+const std::string MANY = " --writers many";
 
 } // namespace
 
@@ -186,7 +190,12 @@ int main() {
     while (std::cin >> length && std::cin.ignore() && std::getline(std::cin, words)) {
         std::string text(length, '\0');
         std::cin.read(text.data(), static_cast<std::streamsize>(length));
-        const Answer answer = QUESTIONS.at(words)(text);
+        Events events = SNAPJUDGE_EVENTS;
+        if (const auto end = words.rfind(MANY); end != std::string::npos) {
+            words.erase(end);
+            events = snapjudge::many_writers();
+        }
+        const Answer answer = QUESTIONS.at(words)(text, events);
         std::cout << static_cast<unsigned>(answer.status) << ' ' << answer.text.size() << '\n' << answer.text << std::flush;
     }
 }

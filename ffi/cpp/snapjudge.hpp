@@ -31,7 +31,10 @@ enum class Form {
     dark_svg = SNAPJUDGE_DARK_SVG
 };
 
-/// There is no such limit of events: it is not 1 to 1,048,576.
+/// The number to hand to a call as `events` where a component may have many writers, as by `--writers many`.
+constexpr std::uint32_t many_writers(std::uint32_t events = SNAPJUDGE_EVENTS) { return events | SNAPJUDGE_MANY_WRITERS; }
+
+/// There is no such limit of events: it is neither 1 to 1,048,576 nor many_writers of such a number.
 struct NoLimit : std::out_of_range {
     using std::out_of_range::out_of_range;
 };
@@ -136,7 +139,7 @@ struct Judged {
     Faults faults;
 };
 
-/// What a run has shown of a component: the process that writes it, its updates, and the views that list it.
+/// What a run has shown of a component: the process of its first update, its updates, and the views that list it.
 struct ComponentStats {
     std::uint32_t component = 0, writer = 0, updates = 0, views = 0;
 };
@@ -343,7 +346,8 @@ inline Answer ask(std::string_view text, const snapjudge_question &asked) {
     // the library takes no null pointer
     const std::uint32_t answer = snapjudge_ask_new(&asked, text.data() ? text.data() : "", text.size(), &out, &length);
     const std::unique_ptr<char, void (*)(void *)> owner(out, std::free);
-    if (answer == SNAPJUDGE_NO_LIMIT) throw NoLimit("a limit of events is from 1 to 1,048,576, and not " + std::to_string(asked.events));
+    if (answer == SNAPJUDGE_NO_LIMIT)
+        throw NoLimit("a limit of events is from 1 to 1,048,576, or many_writers of that, and not " + std::to_string(asked.events));
     if (answer == SNAPJUDGE_NO_OPTION && asked.command == SNAPJUDGE_DRAW) throw NoPart("the history has no such part");
     if (answer == SNAPJUDGE_NO_OPTION) throw std::invalid_argument("the number of faults is from 1 to 1,000, and not " + std::to_string(asked.faults));
     if (answer > SNAPJUDGE_REFUSED) throw std::bad_alloc();

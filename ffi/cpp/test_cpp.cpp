@@ -95,6 +95,35 @@ void try_refused() {
     expect(snapjudge::check(history("begin,0,view,\nend,0,view,\n"), 1).refusal->word == "toomany", "a limit of one event");
 }
 
+// Two processes update a component, and their updates overlap.
+void try_writers() {
+    const std::string begins = "begin,0,update,0:1:5\nbegin,1,update,0:2:6\n";
+    const auto text = history(begins + "end,0,update,\nend,1,update,\n");
+    const auto many = snapjudge::many_writers();
+    const auto one = snapjudge::check(text), judged = snapjudge::check(text, many);
+    expect(one.refusal && one.refusal->record == 3 && one.refusal->word == "writer", "a second writer where one is allowed");
+    expect(judged.atomic && judged.order.size() == 2 && is(judged.order[1].entries.at(0), 0, 2, 6), "an atomic history of two writers");
+    expect(judged.report == "events 4 calls 2 pending 0 views 0\nregular yes\nmonotone yes\natomic yes\norder 2\n1 p0 update 0:1:5\n2 p1 update 0:2:6\n",
+           "its report");
+    expect(snapjudge::explain(text, false, many).text.rfind("atomic: ", 0) == 0, "its explanation");
+    expect(snapjudge::shrink(text, false, many).text == text, "its witness");
+    expect(snapjudge::draw(text, snapjudge::Form::page, many).status == snapjudge::Status::atomic, "its picture");
+    const auto shown = snapjudge::stats(text, many);
+    expect(shown.updates == 2 && shown.by_component.size() == 1 && shown.by_component[0].writer == 0, "its counts");
+    const auto falling = snapjudge::check(history(begins + "end,1,update,\nend,0,update,\n"), many);
+    expect(falling.refusal && falling.refusal->record == 4 && falling.refusal->word == "order", "ends out of order");
+    expect(falling.refusal && falling.refusal->sentences.rfind("refused record 4: order\n", 0) == 0, "the sentences of that");
+    expect(snapjudge::check(text, snapjudge::many_writers(3)).refusal->word == "toomany", "a limit of three events");
+    expect(snapjudge::many_writers(many) == many, "the same number again");
+    for (const std::uint32_t events : {0u, 1048577u}) {
+        try {
+            snapjudge::check(text, snapjudge::many_writers(events));
+            expect(false, "a limit that there is not");
+        } catch (const snapjudge::NoLimit &) {
+        }
+    }
+}
+
 // Two views overlap an update, and not one another.
 void try_stats() {
     const auto text = history("begin,0,update,0:1:7\nbegin,1,view,\nend,1,view,0:1:7\nbegin,2,view,\nend,2,view,\nend,0,update,\n");
@@ -168,6 +197,7 @@ int main() {
     try_local();
     try_write();
     try_refused();
+    try_writers();
     try_stats();
     try_large_view();
     try_several();

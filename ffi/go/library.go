@@ -37,10 +37,22 @@ func first(text []byte) *C.uint8_t {
 	return (*C.uint8_t)(&text[0])
 }
 
+// The number by which the library knows the limit. It is 0, which is no limit, if the events alone would ask for many writers.
+func (o options) limit() uint32 {
+	switch {
+	case o.events >= C.SNAPJUDGE_MANY_WRITERS:
+		return 0
+	case o.manyWriters:
+		return C.SNAPJUDGE_MANY_WRITERS + o.events
+	default:
+		return o.events
+	}
+}
+
 // The status of the library, and how many bytes its answer has. From 0 to 3 the answer is at the front of the room.
-func (asked question) into(room, text []byte, events uint32) (C.uint32_t, int) {
+func (asked question) into(room, text []byte, limit uint32) (C.uint32_t, int) {
 	var written C.size_t
-	in, length, most := first(text), C.size_t(len(text)), C.uint32_t(events)
+	in, length, most := first(text), C.size_t(len(text)), C.uint32_t(limit)
 	option, out, size := C.uint32_t(asked.option), first(room), C.size_t(len(room))
 	var status C.uint32_t
 	switch asked.command {
@@ -64,20 +76,20 @@ func (asked question) into(room, text []byte, events uint32) (C.uint32_t, int) {
 }
 
 // The answer to a question. It is asked again if the first room is too small.
-func ask(asked question, text []byte, events uint32) (Answer, error) {
+func ask(asked question, text []byte, chosen options) (Answer, error) {
 	if C.snapjudge_version() != C.SNAPJUDGE_VERSION {
 		return Answer{}, ErrVersion
 	}
 	for size := len(text) + len(text)/4 + 4096; ; {
 		room := make([]byte, size)
-		status, length := asked.into(room, text, events)
+		status, length := asked.into(room, text, chosen.limit())
 		switch status {
 		case C.SNAPJUDGE_ATOMIC, C.SNAPJUDGE_REGULAR, C.SNAPJUDGE_IRREGULAR, C.SNAPJUDGE_REFUSED:
 			return Answer{Status(status), string(room[:length])}, nil
 		case C.SNAPJUDGE_NO_ROOM:
 			size = length
 		case C.SNAPJUDGE_NO_LIMIT:
-			return Answer{}, &LimitError{events}
+			return Answer{}, &LimitError{chosen.events}
 		case C.SNAPJUDGE_NO_OPTION:
 			return Answer{}, ErrOption
 		default:

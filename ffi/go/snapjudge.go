@@ -28,17 +28,23 @@ const (
 // Option changes how a text is judged.
 type Option func(*options)
 
-type options struct{ events uint32 }
+type options struct {
+	events      uint32
+	manyWriters bool
+}
 
 // Events lets a history have up to this many events, from 1 to MostEvents, in place of UsualEvents.
 func Events(most uint32) Option { return func(o *options) { o.events = most } }
 
-func eventsOf(chosen []Option) uint32 {
+// ManyWriters lets a component have many writers, as `--writers many` does.
+func ManyWriters() Option { return func(o *options) { o.manyWriters = true } }
+
+func optionsOf(chosen []Option) options {
 	all := options{events: UsualEvents}
 	for _, option := range chosen {
 		option(&all)
 	}
-	return all.events
+	return all
 }
 
 // Answer is what a command of the program ends with, and what it writes.
@@ -94,7 +100,7 @@ func Check[T Text](text T, chosen ...Option) (*Judged, error) {
 
 // Reads the object that answers a question into a value.
 func read[T Text](asked question, text T, chosen []Option, into any) error {
-	answer, err := ask(asked, []byte(text), eventsOf(chosen))
+	answer, err := ask(asked, []byte(text), optionsOf(chosen))
 	if err != nil {
 		return err
 	}
@@ -125,64 +131,64 @@ func refusalOf[T Text](text T, object string, chosen []Option) error {
 // Report gives the status and the report of a text, as `snapjudge check` writes it. Each error is that of a limit or of memory, here and
 // in the functions below: of a text that is not a history they say so in the answer.
 func Report[T Text](text T, chosen ...Option) (Answer, error) {
-	return ask(question{command: report}, []byte(text), eventsOf(chosen))
+	return ask(question{command: report}, []byte(text), optionsOf(chosen))
 }
 
 // Explain gives what `snapjudge explain` writes: why the history is not atomic, an order if it is, or why the text is not a history.
 func Explain[T Text](text T, chosen ...Option) (Answer, error) {
-	return ask(question{command: explain}, []byte(text), eventsOf(chosen))
+	return ask(question{command: explain}, []byte(text), optionsOf(chosen))
 }
 
 // ExplainDrawn gives what `snapjudge explain --draw` writes: the sentences of Explain, and below them a picture in characters.
 func ExplainDrawn[T Text](text T, chosen ...Option) (Answer, error) {
-	return ask(question{command: explain, option: 1}, []byte(text), eventsOf(chosen))
+	return ask(question{command: explain, option: 1}, []byte(text), optionsOf(chosen))
 }
 
 // ExplainAll gives what `snapjudge explain --all` writes: the sentences of Explain, with all entries of the views of a fault.
 func ExplainAll[T Text](text T, chosen ...Option) (Answer, error) {
-	return ask(question{command: explain, option: 2}, []byte(text), eventsOf(chosen))
+	return ask(question{command: explain, option: 2}, []byte(text), optionsOf(chosen))
 }
 
 // ExplainAllDrawn gives what `snapjudge explain --all --draw` writes: the sentences of ExplainAll, and below them a picture in characters.
 func ExplainAllDrawn[T Text](text T, chosen ...Option) (Answer, error) {
-	return ask(question{command: explain, option: 3}, []byte(text), eventsOf(chosen))
+	return ask(question{command: explain, option: 3}, []byte(text), optionsOf(chosen))
 }
 
 // ExplainFaults gives what `snapjudge explain --faults N` writes, with faults for N: of each kind the first fault of each of the first N views
 // that have one. The error is ErrOption if N is not from 1 to 1,000.
 func ExplainFaults[T Text](text T, faults uint32, chosen ...Option) (Answer, error) {
-	return ask(question{command: explainFaults, faults: faults}, []byte(text), eventsOf(chosen))
+	return ask(question{command: explainFaults, faults: faults}, []byte(text), optionsOf(chosen))
 }
 
 // ExplainAllFaults gives what `snapjudge explain --all --faults N` writes: the sentences of ExplainFaults, with all entries of the views of a
 // fault.
 func ExplainAllFaults[T Text](text T, faults uint32, chosen ...Option) (Answer, error) {
-	return ask(question{command: explainFaults, option: 1, faults: faults}, []byte(text), eventsOf(chosen))
+	return ask(question{command: explainFaults, option: 1, faults: faults}, []byte(text), optionsOf(chosen))
 }
 
 // JSON gives what `snapjudge check --format json` writes of a file with this name: an object on a line.
 func JSON[T Text](text T, name string, chosen ...Option) (Answer, error) {
-	return ask(question{command: object, name: []byte(name)}, []byte(text), eventsOf(chosen))
+	return ask(question{command: object, name: []byte(name)}, []byte(text), optionsOf(chosen))
 }
 
 // Shrink gives what `snapjudge shrink` writes: a history of at most four of the calls, which has the first fault.
 func Shrink[T Text](text T, chosen ...Option) (Answer, error) {
-	return ask(question{command: shrink}, []byte(text), eventsOf(chosen))
+	return ask(question{command: shrink}, []byte(text), optionsOf(chosen))
 }
 
 // ShrinkDrawn gives what `snapjudge shrink --draw` writes: the picture of that history.
 func ShrinkDrawn[T Text](text T, chosen ...Option) (Answer, error) {
-	return ask(question{command: shrink, option: 1}, []byte(text), eventsOf(chosen))
+	return ask(question{command: shrink, option: 1}, []byte(text), optionsOf(chosen))
 }
 
 // ShrinkMap gives what `snapjudge shrink --map` writes: which calls of the text that history keeps.
 func ShrinkMap[T Text](text T, chosen ...Option) (Answer, error) {
-	return ask(question{command: shrink, option: 2}, []byte(text), eventsOf(chosen))
+	return ask(question{command: shrink, option: 2}, []byte(text), optionsOf(chosen))
 }
 
 // Draw gives the picture of a history in this form. The error is ErrOption for a form that there is not.
 func Draw[T Text](text T, form Form, chosen ...Option) (Answer, error) {
-	return ask(question{command: draw, option: uint32(form)}, []byte(text), eventsOf(chosen))
+	return ask(question{command: draw, option: uint32(form)}, []byte(text), optionsOf(chosen))
 }
 
 // Part says which calls of a history are drawn: how many, and from which on or around which. Calls are counted from 1, and 0 asks for
@@ -192,7 +198,7 @@ type Part struct{ Calls, From, Around uint32 }
 // DrawPart gives the picture of a part of a history in this form. The error is ErrOption for a form that there is not. It is ErrOption too
 // if the history lacks the call, if both calls are named, or if the form has no room for as many calls.
 func DrawPart[T Text](text T, form Form, part Part, chosen ...Option) (Answer, error) {
-	return ask(question{command: draw, option: uint32(form), part: part}, []byte(text), eventsOf(chosen))
+	return ask(question{command: draw, option: uint32(form), part: part}, []byte(text), optionsOf(chosen))
 }
 
 // Stats counts what a run has shown, such as how many views overlap an update. It is not a verdict. Its errors are those of Check.
@@ -206,6 +212,6 @@ func Stats[T Text](text T, chosen ...Option) (*RunStats, error) {
 
 // StatsLines gives what `snapjudge stats` writes.
 func StatsLines[T Text](text T, chosen ...Option) (string, error) {
-	answer, err := ask(question{command: stats}, []byte(text), eventsOf(chosen))
+	answer, err := ask(question{command: stats}, []byte(text), optionsOf(chosen))
 	return answer.Text, err
 }

@@ -100,14 +100,48 @@ func TestACallerChoosesTheLimit(t *testing.T) {
 	expect(t, errors.As(err, &refused) && refused.Word == "toomany", true)
 	_, err = snapjudge.Check(view, snapjudge.Events(snapjudge.MostEvents))
 	expect(t, err, nil)
-	for _, events := range []uint32{0, snapjudge.MostEvents + 1} {
+	// to the library the last but one is a limit of one event with many writers
+	for _, events := range []uint32{0, snapjudge.MostEvents + 1, 1 << 31, 1<<31 + 1, 1<<32 - 1} {
 		_, err = snapjudge.Check(view, snapjudge.Events(events))
+		expect(t, err, &snapjudge.LimitError{Events: events})
+		_, err = snapjudge.Check(view, snapjudge.Events(events), snapjudge.ManyWriters())
 		expect(t, err, &snapjudge.LimitError{Events: events})
 	}
 	_, err = snapjudge.Draw(view, snapjudge.DarkSVG+1)
 	expect(t, err, snapjudge.ErrOption)
 	_, err = snapjudge.DrawPart(view, snapjudge.SVG, snapjudge.Part{From: 1000})
 	expect(t, err, snapjudge.ErrOption)
+}
+
+func TestAComponentHasManyWritersWhereTheCallerSaysSo(t *testing.T) {
+	const begins = header + "begin,0,update,0:1:5\nbegin,1,update,0:2:6\n"
+	const text = begins + "end,0,update,\nend,1,update,\n"
+	many := snapjudge.ManyWriters()
+	judged, err := snapjudge.Check(text, many)
+	if err != nil {
+		t.Fatal(err)
+	}
+	step := func(call, process, number, value uint32) snapjudge.Step {
+		return snapjudge.Step{Call: call, Process: process, Op: snapjudge.Update, Entries: []snapjudge.Entry{{Number: number, Value: value}}}
+	}
+	expect(t, *judged, snapjudge.Judged{Status: snapjudge.Atomic, Events: 4, Calls: 2, Regular: true, Monotone: true, Atomic: true,
+		Order: []snapjudge.Step{step(1, 0, 1, 5), step(2, 1, 2, 6)}})
+	report, _ := snapjudge.Report(text, many)
+	expect(t, report.Text, "events 4 calls 2 pending 0 views 0\nregular yes\nmonotone yes\natomic yes\norder 2\n1 p0 update 0:1:5\n2 p1 update 0:2:6\n")
+	witness, _ := snapjudge.Shrink(text, many)
+	expect(t, witness, snapjudge.Answer{Status: snapjudge.Atomic, Text: text})
+	picture, _ := snapjudge.Draw(text, snapjudge.Page, many)
+	expect(t, picture.Status, snapjudge.Atomic)
+	shown, _ := snapjudge.Stats(text, many)
+	expect(t, shown.ByComponent, []snapjudge.ComponentStats{{Updates: 2}})
+
+	var refused *snapjudge.RefusedError
+	_, err = snapjudge.Check(text)
+	expect(t, errors.As(err, &refused) && refused.Record == 3 && refused.Word == "writer", true)
+	_, err = snapjudge.Check(begins+"end,1,update,\nend,0,update,\n", many)
+	expect(t, errors.As(err, &refused) && refused.Record == 4 && refused.Word == "order", true)
+	_, err = snapjudge.Check(text, many, snapjudge.Events(3))
+	expect(t, errors.As(err, &refused) && refused.Record == 5 && refused.Word == "toomany", true)
 }
 
 func TestAllEntriesOfALargeViewAreToldIfTheyAreAskedFor(t *testing.T) {

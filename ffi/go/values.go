@@ -135,7 +135,7 @@ type Judged struct {
 	Order     []Step          `json:"-"` // an order that explains an atomic history
 }
 
-// ComponentStats is what a run has shown of a component: the process that writes it, its updates, and the views that list it.
+// ComponentStats is what a run has shown of a component: the process of its first update, its updates, and the views that list it.
 type ComponentStats struct {
 	Component uint32 `json:"component"`
 	Writer    uint32 `json:"writer"`

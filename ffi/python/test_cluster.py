@@ -138,12 +138,22 @@ class OneMachine(Recordings):
             status, out, said = self.ran("--events", str(2 * updates), room)
             self.assertEqual((status, out.splitlines()[:2], said), (0, [b"files 1", b"atomic 1 first " + os.fsencode(room) + b"/long.csv"], b""))
 
+    def test_many_writers_are_judged_where_they_are_allowed(self):
+        with tempfile.TemporaryDirectory() as room:
+            with open(os.path.join(room, "two.csv"), "w", encoding="ascii") as file:
+                file.write("event,process,op,data\nbegin,0,update,0:1:5\nbegin,1,update,0:2:6\nend,0,update,\nend,1,update,\n")
+            self.assertEqual(self.ran(room)[0], 3)
+            self.assertEqual(self.ran("--writers", "one", room)[0], 3)
+            status, out, said = self.ran("--writers", "many", room)
+            self.assertEqual((status, out.splitlines()[:2], said), (0, [b"files 1", b"atomic 1 first " + os.fsencode(room) + b"/two.csv"], b""))
+
     def test_no_status_of_a_verdict_comes_without_sums(self):
         for words, status, told in ((["--scheduler"], 5, b"expected one argument"), ([], 5, b"there is no recording"),
                                     (["--help"], 5, b""), (["--views", "-1", "."], 5, b"--views"), (["--scheduler", "", "."], 5, b"no address"),
                                     (["--workers", "0", "."], 5, b"--workers: '0' is no whole number from 1 to "),
                                     (["--events", "0", "."], 5, b"--events: '0' is no whole number from 1 to 1048576"),
                                     (["--events", "1048577", "."], 5, b"--events: '1048577' is no whole number"), (["--bag", "x", "."], 5, b"--bag: 'x' is no"),
+                                    (["--writers", "two", "."], 5, b"--writers: invalid choice: 'two'"),
                                     (["--views", "1" * 5000, "."], 5, b"--views"),
                                     (["--files-from", "none"], 4, b"none: no such file"), (["--files-from", "."], 4, b".: is a directory; check -r judges the files below it"), (["--files-from", "-"], 4, b"there are no recordings")):
             found = self.ran(*words)

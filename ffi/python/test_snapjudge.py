@@ -34,9 +34,9 @@ def status_of(report):
     return "regular" if "atomic no" in report else "atomic"
 
 
-def faults_of(records):
+def faults_of(records, writers="one"):
     """Each fault without its calls."""
-    return [(fault.kind, fault.count, fault.view, fault.more) for fault in snapjudge.check(HEADER + records).faults]
+    return [(fault.kind, fault.count, fault.view, fault.more) for fault in snapjudge.check(HEADER + records, writers=writers).faults]
 
 
 class Judge(unittest.TestCase):
@@ -116,11 +116,42 @@ class Judge(unittest.TestCase):
 
     def test_a_limit_that_there_is_not_is_told_and_the_room_stays_as_it_was(self):
         self.assertTrue(snapjudge.check(HEADER, 1 << 20).atomic)
-        for events in (0, -1, (1 << 20) + 1, 1 << 32, (1 << 32) + 1, 1 << 64):
-            room = bytearray(b"\xee" * 100)
-            with self.assertRaises(snapjudge.NoLimit) as told:
-                snapjudge.report_into(HEADER.encode(), room, events)
-            self.assertEqual((told.exception.events, room), (events, b"\xee" * 100))
+        for events in (0, -1, (1 << 20) + 1, 1 << 31, (1 << 31) + 1, 1 << 32, (1 << 32) + 1, 1 << 64):
+            for writers in snapjudge.WRITERS:
+                room = bytearray(b"\xee" * 100)
+                with self.assertRaises(snapjudge.NoLimit) as told:
+                    snapjudge.report_into(HEADER.encode(), room, events, writers=writers)
+                self.assertEqual((told.exception.events, room), (events, b"\xee" * 100))
+
+    def test_a_component_has_many_writers_where_the_caller_says_so(self):
+        begins = HEADER + "begin,0,update,0:1:5\nbegin,1,update,0:2:6\n"
+        text = begins + "end,0,update,\nend,1,update,\n"
+        report = "events 4 calls 2 pending 0 views 0\nregular yes\nmonotone yes\natomic yes\norder 2\n1 p0 update 0:1:5\n2 p1 update 0:2:6\n"
+        for one in ({}, {"writers": "one"}):
+            self.assertEqual(snapjudge.report(text, **one), ("refused", "refused record 3: writer\n"))
+        self.assertEqual(snapjudge.report(text, writers="many"), ("atomic", report))
+        room = bytearray(len(report))
+        self.assertEqual((snapjudge.report_into(text.encode(), room, writers="many"), room), (("atomic", len(report)), report.encode()))
+        judged = snapjudge.check(text, writers="many")
+        self.assertEqual((judged.report, [step.process for step in judged.order]), (report, [0, 1]))
+        self.assertEqual(judged._repr_svg_(), snapjudge.draw(text, "svg", writers="many"))
+        self.assertIn(html.escape(snapjudge.draw(text, writers="many")), judged._repr_html_())
+        self.assertEqual(snapjudge.shrink(text, writers="many"), text)
+        self.assertEqual(snapjudge.stats(text, writers="many").by_component, (snapjudge.ComponentStats(component=0, writer=0, updates=2, views=0),))
+        self.assertEqual(faults_of("begin,0,update,0:1:5\nend,0,update,\nbegin,1,update,0:2:6\nend,1,update,\nbegin,2,view,\nend,2,view,0:1:5\n", "many"),
+                         [("proximity", 1, 3, {"component": 0, "number": 1, "side": "old"})])
+        falling = begins + "end,1,update,\nend,0,update,\n"
+        with self.assertRaises(snapjudge.Refused) as refused:
+            snapjudge.check(falling, writers="many")
+        self.assertEqual((refused.exception.record, refused.exception.word), (4, "order"))
+        self.assertEqual(str(refused.exception), snapjudge.explain(falling, writers="many"))
+        self.assertTrue(snapjudge.explain(falling, faults=2, writers="many").startswith("refused record 4: order\n"))
+
+    def test_another_word_for_the_writers_is_told(self):
+        for judge in (snapjudge.check, snapjudge.report, snapjudge.explain, snapjudge.shrink, snapjudge.draw, snapjudge.stats):
+            with self.assertRaises(ValueError) as told:
+                judge(HEADER, writers="two")
+            self.assertEqual(str(told.exception), "the writers of a component are one or many, and not two")
 
     def test_an_order_is_taken_apart(self):
         judged = snapjudge.check(HEADER + "begin,0,update,0:1:3\nbegin,1,view,\nend,1,view,\nend,0,update,\n")

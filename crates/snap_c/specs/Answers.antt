@@ -1,6 +1,8 @@
 -- What a call from C answers and leaves in its caller's memory.
-use Rattle.std.specs.Prelude.{◌≡◌, ◌<◌, ◌≤◌, ◌++◌, ◌⊎◌, ℕ, List, length, drop, Option, Some, None}
-use Rattle.snap_core.specs.Limits.{IsLimit}
+use Rattle.std.specs.Prelude.{◌≡◌, ◌<◌, ◌≤◌, ◌+◌, ◌^◌, ◌++◌, ◌⊎◌, ℕ, List, length, drop, Option, Some, None}
+use Rattle.snap_core.specs.declared.limit.Limit.{Limit}
+use Rattle.snap_core.specs.declared.writers.Writers.{Writers}
+use Rattle.snap_core.specs.declared.writers.Writers.TheVariants.{One, Many}
 use Rattle.snap_check.specs.declared.status.Status.{Status}
 use Rattle.snap_check.specs.Statuses.{code_of}
 use Rattle.snap_check.specs.Reports.{IsReport}
@@ -45,23 +47,37 @@ abbrev pub IsAnswered : (Option Status → List ℕ → Type 0) → List ℕ →
 IsAnswered Is old new needed code =
     IsFilled Is old new needed code ⊎ (IsShort Is old new needed code ⊎ (IsUnwritten 4 old new needed code ⊎ IsLacking Is old new needed code))
 
--- the answer to a text if there is such a limit of events, and if there is none
-abbrev pub IsWithin : ℕ → (List ℕ → List ℕ → ℕ → ℕ → Type 0) → List ℕ → List ℕ → ℕ → ℕ → Type 0
-IsWithin events Is old new needed code = (IsLimit events × Is old new needed code) ⊎ ((IsLimit events → ⊥) × IsUnwritten 6 old new needed code)
+-- what a number says of a limit: its events, and 2^31 more where a component may have many writers
+
+abbrev pub many_writers : ℕ
+many_writers = 2 ^ 31
+
+abbrev pub word_of_writers : Writers → ℕ
+word_of_writers One = 0
+word_of_writers Many = many_writers
+
+abbrev pub word_of : Limit → ℕ
+word_of limit = limit.events + word_of_writers limit.writers
+
+-- the answer within the limit that a number names; and if it names none
+abbrev pub IsWithin : ℕ → (Limit → List ℕ → List ℕ → ℕ → ℕ → Type 0) → List ℕ → List ℕ → ℕ → ℕ → Type 0
+IsWithin word Is old new needed code =
+    ((limit : Limit) × (word_of limit ≡ word) × Is limit old new needed code)
+    ⊎ (((limit : Limit) → word_of limit ≡ word → ⊥) × IsUnwritten 6 old new needed code)
 
 -- the report of a text
-abbrev pub IsChecked : ℕ → List ℕ → List ℕ → List ℕ → ℕ → ℕ → Type 0
+abbrev pub IsChecked : Limit → List ℕ → List ℕ → List ℕ → ℕ → ℕ → Type 0
 IsChecked limit text = IsAnswered (IsCertain (IsReport limit text))
 
--- the report of a text, if there is such a limit of events
+-- the report of a text, if the number names a limit
 abbrev pub IsCheckedFor : ℕ → List ℕ → List ℕ → List ℕ → ℕ → ℕ → Type 0
-IsCheckedFor events text = IsWithin events (IsChecked events text)
+IsCheckedFor word text = IsWithin word (λ limit. IsChecked limit text)
 
 -- the answer to what is asked, or that nothing is
-abbrev pub IsAnsweredTo : ℕ → Option Asked → List ℕ → List ℕ → List ℕ → ℕ → ℕ → Type 0
+abbrev pub IsAnsweredTo : Limit → Option Asked → List ℕ → List ℕ → List ℕ → ℕ → ℕ → Type 0
 IsAnsweredTo limit (Some asked) text old new needed code = IsAnswered (IsAnswer asked limit text) old new needed code
 IsAnsweredTo limit None text old new needed code = IsUnwritten 7 old new needed code
 
--- the answer to what is asked, if there is such a limit of events and something is asked
-abbrev pub IsAnsweredFor : ℕ → Option Asked → List ℕ → List ℕ → List ℕ → ℕ → ℕ → Type 0
-IsAnsweredFor events asked text = IsWithin events (IsAnsweredTo events asked text)
+-- the answer to what is asked, if the number names a limit and something is asked
+unfoldable pub IsAnsweredFor : ℕ → Option Asked → List ℕ → List ℕ → List ℕ → ℕ → ℕ → Type 0
+IsAnsweredFor word asked text = IsWithin word (λ limit. IsAnsweredTo limit asked text)

@@ -1,6 +1,7 @@
 -- What may be asked of a text, and what the program answers to that.
 use Rattle.std.specs.Prelude.{ℕ, ◌-◌, ◌==◌, ◌||◌, List, [], ◌∷◌, codes, Option, Some, None, if◌then◌else◌, nat_lt, slice_get}
 use Rattle.std.proofs.Common.{Bor}
+use Rattle.snap_core.specs.declared.limit.Limit.{Limit}
 use Rattle.snap_options.specs.declared.limits.TheConstants.{FAULT_LIMIT, LINE_CALLS, MOST_CALLS}
 use Rattle.snap_draw.specs.declared.window.Place.{Place}
 use Rattle.snap_draw.specs.declared.window.Place.TheVariants.{Faults, From, Around}
@@ -16,9 +17,9 @@ use Rattle.snap_runs.specs.declared.question.Question.TheVariants.{Explanation, 
 use Rattle.snap_c.specs.declared.question.Asked.{Asked}
 use Rattle.snap_c.specs.declared.question.Asked.TheVariants.{Report, Of, InputCounts}
 
--- The status of a text and what is written of it, as the command does it. A history may have up to limit events. A window may name a
--- call that the history lacks; then there is no status.
-abbrev pub IsAnswer : Asked → ℕ → List ℕ → Option Status → List ℕ → Type 0
+-- The status of a text and what is written of it, as the command does it, within a limit. A window may name a call
+-- that the history lacks; then there is no status.
+abbrev pub IsAnswer : Asked → Limit → List ℕ → Option Status → List ℕ → Type 0
 IsAnswer Report limit text = IsCertain (IsReport limit text)
 IsAnswer (Of question) limit text = IsAnswerTo question limit text
 IsAnswer InputCounts limit text = IsCountsObject (codes "-") limit text

@@ -2,14 +2,16 @@
 #![tactic(auto)]
 
 ghost use Rattle.std.specs.Prelude.{◌≡◌, Some, slice_get};
-ghost use Rattle.snap_core.specs.Limits.{event_limit};
+ghost use Rattle.snap_core.specs.UsualLimits.{usual_limit};
 ghost use Rattle.snap_c.specs.Answers.{IsAnswered, IsAnsweredFor, IsChecked, IsCheckedFor};
 ghost use Rattle.snap_c.specs.Questions.{IsAnswer, counts, explanation_of as spec_explanation_of, explanations, object_asked, picture_asked as spec_picture_asked, usual_window as spec_usual_window, window_asked as spec_window_asked, witnesses};
 ghost use Rattle.snap_c.specs.declared.version.TheConstants.{VERSION as version};
 
+mod limit;
 mod question;
 mod version;
 
+use limit::limit_of;
 use question::{
     Asked, answer_of, chosen, explained, explanation_of, picture_asked, usual_window, window_asked,
 };
@@ -25,7 +27,7 @@ const NO_MEMORY: u32 = 4;
 /// The answer if the room is too small.
 const NO_ROOM: u32 = 5;
 
-/// The answer if there is no such limit of events.
+/// The answer if a number names no limit.
 const NO_LIMIT: u32 = 6;
 
 /// The answer if an option is out of its range.
@@ -40,7 +42,7 @@ fn answer(
     out: &mut [u8],
     length: &mut usize,
 ) -> u32
-    ensures { IsAnswered (IsAnswer asked.entry limit.events text.now) out.old out.new length.new result }
+    ensures { IsAnswered (IsAnswer asked.entry limit text.now) out.old out.new length.new result }
 {
     match answer_of(alloc, asked, text, limit) {
         Ok((Some(status), answer)) => {
@@ -63,7 +65,7 @@ fn answer(
     }
 }
 
-// Answers what is asked of a text, if there is such a limit of events and something is asked.
+// Answers what is asked of a text, if `events` names a limit and something is asked.
 fn answer_within(
     alloc: Global,
     asked: Option<Asked<'_>>,
@@ -75,7 +77,7 @@ fn answer_within(
     ensures { IsAnsweredFor events asked.entry text.now out.old out.new length.new result }
 {
     *length = 0;
-    let Some(limit) = Limit::new(events) else {
+    let Some(limit) = limit_of(events) else {
         return NO_LIMIT;
     };
     match asked {
@@ -95,14 +97,15 @@ pub extern "C" fn snapjudge_check(
     report: &mut [u8],
     length: &mut usize,
 ) -> u32
-    ensures { IsChecked event_limit text.now report.old report.new length.new result }
+    ensures { IsChecked usual_limit text.now report.old report.new length.new result }
 {
     let usual = Limit::usual();
     answer(alloc, Asked::Report, text, usual, report, length)
 }
 
 /// Judges a text as `snapjudge_check` does, but a history may have `events` events in place of 65,536, and its text 1,024 times as
-/// many bytes. The answer is 6 if `events` is not 1 to 1,048,576. Then nothing was written into `report`, and `length` is 0.
+/// many bytes. If `events` is greater by 2,147,483,648, a component may have many writers, as by `--writers many`. The answer is 6 if
+/// what is left is not 1 to 1,048,576. Then nothing was written into `report`, and `length` is 0.
 #[unsafe(no_mangle)]
 pub extern "C" fn snapjudge_check_limit(
     alloc: Global,

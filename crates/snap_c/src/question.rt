@@ -148,7 +148,7 @@ pub(crate) fn answer_of(
     text: &[u8],
     limit: Limit,
 ) -> Result<(Option<Status>, Vec<u8>), RunFault>
-    ensures { IfOk result (λ answer. IsAnswer asked.entry limit.events text.now answer.0 answer.1.items) }
+    ensures { IfOk result (λ answer. IsAnswer asked.entry limit text.now answer.0 answer.1.items) }
 {
     let mut reader = Counted::new(text);
     match asked {

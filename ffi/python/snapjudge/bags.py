@@ -29,10 +29,11 @@ UNOPENED = {
 
 
 class Limits(typing.NamedTuple):
-    """How many completed views a history has at least, and how many events at most."""
+    """How many completed views a history has at least, how many events at most, and how many writers a component may have."""
 
     views: int = 0
     events: int = USUAL
+    writers: str = "one"
 
 
 def read_text(file, longest):
@@ -46,7 +47,7 @@ def read_text(file, longest):
 
 def judge_text(text, limits):
     """The answer for a text: its exit status, and why there is no verdict if the report does not say it."""
-    status, told = report(text, limits.events)
+    status, told = report(text, limits.events, writers=limits.writers)
     code = STATUSES.index(status)
     if code != REFUSED and int(told.partition("\n")[0].rpartition(" ")[2]) < limits.views:
         return REFUSED, f"refused: fewer than {limits.views} views"

@@ -18,7 +18,7 @@ import sys
 import time
 import traceback
 
-from snapjudge import MOST_EVENTS
+from snapjudge import MOST_EVENTS, WRITERS
 from snapjudge.bags import FAILED, UNOPENED, USUAL, Limits, judge_bag
 
 # What is shown for these bytes of a name.
@@ -309,6 +309,7 @@ def words_of(arguments):
     where.add_argument("--workers", metavar="N", type=positive, help="judge by N processes of this machine; the default is one for each processor")
     words.add_argument("--views", metavar="N", type=natural, default=0, help="refuse a history of fewer than N completed views")
     words.add_argument("--events", metavar="N", type=limit, default=USUAL, help=f"allow a history N events; the default is {USUAL:,}")
+    words.add_argument("--writers", choices=WRITERS, default="one", help="how many processes may write a component; the default is one")
     words.add_argument("--bag", metavar="N", type=positive, help="give a worker N files at a time")
     words.add_argument("--files-from", metavar="LIST", help="take the names in this file too, one a line; - is standard input")
     words.add_argument("-0", "--null", action="store_true", help="the names in the list end with a zero byte")
@@ -375,7 +376,7 @@ def run(words):
     try:
         here = os.getcwdb()
         paths = [os.path.join(here, name) for name in names if is_utf8(name)]
-        judged = iter(judge_all(engine, paths, Limits(words.views, words.events), words.bag, progress.tell))
+        judged = iter(judge_all(engine, paths, Limits(words.views, words.events, words.writers), words.bag, progress.tell))
         answers = [next(judged) if is_utf8(name) else (FAILED, "is not UTF-8") for name in names]
     finally:
         progress.end()

@@ -13,7 +13,9 @@ NO_MEMORY, NO_ROOM, NO_LIMIT = 4, 5, 6
 EVENTS, MOST_EVENTS = 65_536, 1_048_576
 # The greatest number of faults of a kind that an explanation tells of.
 MOST_FAULTS = 1000
-# The numbers that a call can be handed as a limit; the library says which of them it takes.
+# How many processes may write a component, and what each word adds to the limit of events.
+WRITERS = {"one": 0, "many": 2**31}
+# The greatest number that a call can be handed; the library says which of them it takes.
 MOST = 2**32 - 1
 
 _HERE = os.path.dirname(os.path.abspath(__file__))
@@ -83,19 +85,22 @@ def bytes_of(history) -> bytes:
         raise TypeError(f"a history is a text, bytes, a path or an open file, and no {type(history).__name__}") from None
 
 
-def answer_into(call: str, text: bytes, words: tuple, room: bytearray, events: int | None = None) -> tuple[str, int]:
+def answer_into(call: str, text: bytes, words: tuple, room: bytearray, events: int | None = None, writers: str = "one") -> tuple[str, int]:
     """The status of a text, of STATUSES, and the length of what a call answers, which is written to the front of a bytearray.
 
-    A history has at most this many events, or 65,536. Raises NoLimit, TooLittleRoom and MemoryError; the bytearray is then unchanged.
+    A history has at most this many events, or 65,536, and a component has one writer or many. Raises NoLimit, TooLittleRoom and
+    MemoryError; the bytearray is then unchanged.
     """
+    if writers not in WRITERS:
+        raise ValueError(f"the writers of a component are {' or '.join(WRITERS)}, and not {writers}")
     events = EVENTS if events is None else events
-    if not 0 <= events <= MOST:
+    if not 0 <= events < WRITERS["many"]:
         raise NoLimit(events)
     length = ctypes.c_size_t()
     # a bytearray of no bytes has no place of its own
     place = (ctypes.c_char * len(room)).from_buffer(room) if room else ctypes.create_string_buffer(1)
     called = getattr(_library(), f"snapjudge_{call}")
-    status = called(text, len(text), events, *words, place, len(room), ctypes.byref(length))
+    status = called(text, len(text), events + WRITERS[writers], *words, place, len(room), ctypes.byref(length))
     if status < len(STATUSES):
         return STATUSES[status], length.value
     if status == NO_ROOM:
@@ -107,13 +112,13 @@ def answer_into(call: str, text: bytes, words: tuple, room: bytearray, events: i
     raise ValueError(f"snapjudge_{call} takes no such option as {words}")
 
 
-def answer(call: str, text: bytes, *words, events: int | None = None) -> tuple[str, str]:
+def answer(call: str, text: bytes, *words, events: int | None = None, writers: str = "one") -> tuple[str, str]:
     """The status of a text, of STATUSES, and what a call answers."""
     size = len(text) + len(text) // 4 + 256
     while True:
         room = bytearray(size)
         try:
-            status, length = answer_into(call, text, words, room, events)
+            status, length = answer_into(call, text, words, room, events, writers)
             return status, room[:length].decode()
         except TooLittleRoom as needed:
             size = needed.length

@@ -25,8 +25,8 @@ class NotAtomic(AssertionError):
 
     def __init__(self, judged: Judged, where: str = "") -> None:
         self.judged = judged
-        said = explain(judged.text, judged.limit)
-        witness = shrink(judged.text, judged.limit)
+        said = explain(judged.text, judged.limit, writers=judged.writers)
+        witness = shrink(judged.text, judged.limit, writers=judged.writers)
         super().__init__(f"the history is {said}\na witness, at most four of its calls:\n{witness}{where}")
 
 
@@ -34,11 +34,11 @@ class NoHistory(AssertionError):
     """A text is not a history, so there is no verdict on it."""
 
 
-def assert_atomic(history, events: int | None = None, views: int = 1, out=None, name: str = "history") -> Judged:
+def assert_atomic(history, events: int | None = None, views: int = 1, out=None, name: str = "history", *, writers: str = "one") -> Judged:
     """The verdict on an atomic history. Raises NotAtomic for any other, and NoHistory for a text that is none, or has fewer completed
     views than `views`: it shows nothing. A history that is not atomic is kept as NAME.csv in the folder `out`, with its page."""
     try:
-        judged = check(history, events)
+        judged = check(history, events, writers=writers)
     except Refused as refused:
         raise NoHistory(str(refused)) from None
     if not judged.atomic:
@@ -55,7 +55,7 @@ def _kept(judged, out, name):
     place = pathlib.Path(out, re.sub(r"[^\w.-]+", "-", name))
     place.parent.mkdir(parents=True, exist_ok=True)
     place.with_name(f"{place.name}.csv").write_bytes(judged.text)
-    place.with_name(f"{place.name}.html").write_text(draw(judged.text, events=judged.limit), encoding="utf-8")
+    place.with_name(f"{place.name}.html").write_text(draw(judged.text, events=judged.limit, writers=judged.writers), encoding="utf-8")
     return f"its page is {place}.html\n"
 
 

@@ -79,7 +79,7 @@ class Fault:
 
 @dataclass(frozen=True)
 class ComponentStats:
-    """What a run has shown of a component: the process that writes it, its updates, and the views that list it."""
+    """What a run has shown of a component: the process of its first update, its updates, and the views that list it."""
 
     component: int
     writer: int
@@ -122,6 +122,7 @@ class Judged:
     faults: tuple[Fault, ...]
     text: bytes = field(repr=False)
     limit: int | None = field(default=None, repr=False)
+    writers: str = field(default="one", repr=False)
 
     @property
     def atomic(self) -> bool:
@@ -134,7 +135,7 @@ class Judged:
     @functools.cached_property
     def report(self) -> str:
         """What `snapjudge check` writes, to the byte."""
-        return library.answer("check_limit", self.text, events=self.limit)[1]
+        return self._answer("check_limit")
 
     @functools.cached_property
     def order(self) -> tuple[Step, ...]:
@@ -148,12 +149,15 @@ class Judged:
         verdicts = {"regular": self.regular, "monotone": self.monotone, "atomic": self.atomic}
         return {"status": self.status, **asdict(self.counts), **verdicts, "faults": faults}
 
+    def _answer(self, call: str, *words) -> str:
+        return library.answer(call, self.text, *words, events=self.limit, writers=self.writers)[1]
+
     def _repr_svg_(self) -> str:
-        return library.answer("draw", self.text, 1, events=self.limit)[1]
+        return self._answer("draw", 1)
 
     def _repr_html_(self) -> str:
         """The page in a frame of its own, so that several pages in one notebook do not meet."""
-        page = html.escape(library.answer("draw", self.text, 0, events=self.limit)[1])
+        page = html.escape(self._answer("draw", 0))
         return f'<iframe srcdoc="{page}" style="border: 0; height: 36em; width: 100%"></iframe>'
 
 
@@ -181,12 +185,12 @@ def _fault(kind, found):
     return Fault(kind, found["count"], calls["view"].call, more, calls, differs)
 
 
-def judged_of(status: str, found: dict, text: bytes, limit: int | None) -> Judged:
+def judged_of(status: str, found: dict, text: bytes, limit: int | None, writers: str) -> Judged:
     """The verdict that an object of the library has."""
     counts = Counts(*(found[name] for name in ("events", "calls", "pending", "views")))
     kinds = ("integrity", "proximity", "read", "write")
     faults = tuple(_fault(kind, found[kind]) for kind in kinds if found[kind])
-    return Judged(status, counts, found["monotone"], faults, text, limit)
+    return Judged(status, counts, found["monotone"], faults, text, limit, writers)
 
 
 def stats_of(found: dict) -> Stats:

@@ -10,7 +10,7 @@ returns-then-needed-out c =
     inr (inl (record {
       status = c.in-Ok-Some-default.status;
       out = c.in-Ok-Some-default.answer.items;
-      is = subst (λ (answered : Option Status). IsAnswer c.args.asked c.args.limit.events c.args.text.now answered c.in-Ok-Some-default.answer.items)
+      is = subst (λ (answered : Option Status). IsAnswer c.args.asked c.args.limit c.args.text.now answered c.in-Ok-Some-default.answer.items)
           c.in-Ok-Some-default.field-0-0-is c.in-Ok-Some-default.ensures;
       answers = refl;
       needs = omega (arith, c.len-needed.ensures);

@@ -13,36 +13,48 @@ import (
 	"wovencliff.example/snapjudge"
 )
 
+// What is asked of a text, with options.
+type asker func([]byte, ...snapjudge.Option) (snapjudge.Answer, error)
+
 // The question that each command asks of a text.
-var questions = map[string]func([]byte) (snapjudge.Answer, error){
-	"check":                    func(text []byte) (snapjudge.Answer, error) { return snapjudge.Report(text) },
-	"explain":                  func(text []byte) (snapjudge.Answer, error) { return snapjudge.Explain(text) },
-	"explain --draw":           func(text []byte) (snapjudge.Answer, error) { return snapjudge.ExplainDrawn(text) },
-	"explain --all":            func(text []byte) (snapjudge.Answer, error) { return snapjudge.ExplainAll(text) },
-	"explain --all --draw":     func(text []byte) (snapjudge.Answer, error) { return snapjudge.ExplainAllDrawn(text) },
-	"check --format json":      func(text []byte) (snapjudge.Answer, error) { return snapjudge.JSON(text, "-") },
-	"shrink":                   func(text []byte) (snapjudge.Answer, error) { return snapjudge.Shrink(text) },
-	"shrink --draw":            func(text []byte) (snapjudge.Answer, error) { return snapjudge.ShrinkDrawn(text) },
-	"shrink --map":             func(text []byte) (snapjudge.Answer, error) { return snapjudge.ShrinkMap(text) },
-	"explain --faults 3":       func(text []byte) (snapjudge.Answer, error) { return snapjudge.ExplainFaults(text, 3) },
-	"explain --all --faults 3": func(text []byte) (snapjudge.Answer, error) { return snapjudge.ExplainAllFaults(text, 3) },
-	"draw":                     func(text []byte) (snapjudge.Answer, error) { return snapjudge.Draw(text, snapjudge.Page) },
-	"draw --svg":               func(text []byte) (snapjudge.Answer, error) { return snapjudge.Draw(text, snapjudge.SVG) },
-	"draw --text":              func(text []byte) (snapjudge.Answer, error) { return snapjudge.Draw(text, snapjudge.Lines) },
-	"draw --light":             func(text []byte) (snapjudge.Answer, error) { return snapjudge.Draw(text, snapjudge.LightPage) },
-	"draw --dark":              func(text []byte) (snapjudge.Answer, error) { return snapjudge.Draw(text, snapjudge.DarkPage) },
-	"draw --svg --calls 5": func(text []byte) (snapjudge.Answer, error) {
-		return snapjudge.DrawPart(text, snapjudge.SVG, snapjudge.Part{Calls: 5})
-	},
-	"draw --svg --dark":   func(text []byte) (snapjudge.Answer, error) { return snapjudge.Draw(text, snapjudge.DarkSVG) },
-	"stats":               statsLines,
-	"stats --format json": stats,
-	"values":              values,
+var questions = map[string]asker{
+	"check":                    snapjudge.Report[[]byte],
+	"explain":                  snapjudge.Explain[[]byte],
+	"explain --draw":           snapjudge.ExplainDrawn[[]byte],
+	"explain --all":            snapjudge.ExplainAll[[]byte],
+	"explain --all --draw":     snapjudge.ExplainAllDrawn[[]byte],
+	"check --format json":      with(snapjudge.JSON[[]byte], "-"),
+	"shrink":                   snapjudge.Shrink[[]byte],
+	"shrink --draw":            snapjudge.ShrinkDrawn[[]byte],
+	"shrink --map":             snapjudge.ShrinkMap[[]byte],
+	"explain --faults 3":       with(snapjudge.ExplainFaults[[]byte], 3),
+	"explain --all --faults 3": with(snapjudge.ExplainAllFaults[[]byte], 3),
+	"draw":                     with(snapjudge.Draw[[]byte], snapjudge.Page),
+	"draw --svg":               with(snapjudge.Draw[[]byte], snapjudge.SVG),
+	"draw --text":              with(snapjudge.Draw[[]byte], snapjudge.Lines),
+	"draw --light":             with(snapjudge.Draw[[]byte], snapjudge.LightPage),
+	"draw --dark":              with(snapjudge.Draw[[]byte], snapjudge.DarkPage),
+	"draw --svg --calls 5":     with(fewCalls, 5),
+	"draw --svg --dark":        with(snapjudge.Draw[[]byte], snapjudge.DarkSVG),
+	"stats":                    statsLines,
+	"stats --format json":      stats,
+	"values":                   values,
+}
+
+// The question of a function that takes one thing more than the text.
+func with[T any](ask func([]byte, T, ...snapjudge.Option) (snapjudge.Answer, error), more T) asker {
+	return func(text []byte, chosen ...snapjudge.Option) (snapjudge.Answer, error) {
+		return ask(text, more, chosen...)
+	}
+}
+
+func fewCalls(text []byte, calls uint32, chosen ...snapjudge.Option) (snapjudge.Answer, error) {
+	return snapjudge.DrawPart(text, snapjudge.SVG, snapjudge.Part{Calls: calls}, chosen...)
 }
 
 // The lines of what a run has shown. The program ends with 0, unless the text is not a history.
-func statsLines(text []byte) (snapjudge.Answer, error) {
-	lines, err := snapjudge.StatsLines(text)
+func statsLines(text []byte, chosen ...snapjudge.Option) (snapjudge.Answer, error) {
+	lines, err := snapjudge.StatsLines(text, chosen...)
 	answer := snapjudge.Answer{Text: lines}
 	if strings.HasPrefix(lines, "refused ") {
 		answer.Status = snapjudge.Refused
@@ -51,8 +63,8 @@ func statsLines(text []byte) (snapjudge.Answer, error) {
 }
 
 // What a run has shown, written as the program writes its object.
-func stats(text []byte) (snapjudge.Answer, error) {
-	shown, err := snapjudge.Stats(text)
+func stats(text []byte, chosen ...snapjudge.Option) (snapjudge.Answer, error) {
+	shown, err := snapjudge.Stats(text, chosen...)
 	var refused *snapjudge.RefusedError
 	if errors.As(err, &refused) {
 		return snapjudge.Answer{Status: snapjudge.Refused, Text: objectOf(refused)}, nil
@@ -75,8 +87,8 @@ func objectOf(refused *snapjudge.RefusedError) string {
 
 // The values of a text, written as the program writes them: its object, and below it the order of the report. Of a text that is not a
 // history they are the object and the sentences.
-func values(text []byte) (snapjudge.Answer, error) {
-	judged, err := snapjudge.Check(text)
+func values(text []byte, chosen ...snapjudge.Option) (snapjudge.Answer, error) {
+	judged, err := snapjudge.Check(text, chosen...)
 	var refused *snapjudge.RefusedError
 	if errors.As(err, &refused) {
 		return snapjudge.Answer{Status: snapjudge.Refused, Text: objectOf(refused) + refused.Sentences}, nil
@@ -113,7 +125,12 @@ func main() {
 		if _, err := io.ReadFull(in, text); err != nil {
 			panic(err)
 		}
-		answer, err := questions[words](text)
+		command := strings.TrimSuffix(words, " --writers many")
+		var chosen []snapjudge.Option
+		if command != words {
+			chosen = append(chosen, snapjudge.ManyWriters())
+		}
+		answer, err := questions[command](text, chosen...)
 		if err != nil {
 			panic(err)
 		}

@@ -1,32 +1,32 @@
 //! Answers as the program does, by the crate: ../../../differential.py compares the two.
-use snapjudge::{Answer, Call, ComponentStats, Difference, Entry, Error, Fault, Form, Judged, NamedUpdate, Op};
-use snapjudge::{Refusal, Side, Status, Verdict};
+use snapjudge::{Answer, Call, ComponentStats, Difference, Entry, Error, Fault, Form, Judge, Judged, NamedUpdate, Op};
+use snapjudge::{Part, Refusal, Side, Status, Verdict};
 use std::io::{self, BufRead, Read, Write};
 
 /// What the command answers.
-fn answer(words: &str, text: &[u8]) -> Result<Answer, Error> {
+fn answer(judge: Judge, words: &str, text: &[u8]) -> Result<Answer, Error> {
     match words {
-        "check" => snapjudge::report(text),
-        "explain" => snapjudge::explain(text),
-        "explain --draw" => snapjudge::explain_drawn(text),
-        "explain --all" => snapjudge::explain_all(text),
-        "explain --all --draw" => snapjudge::explain_all_drawn(text),
-        "check --format json" => snapjudge::json(text, "-"),
-        "shrink" => snapjudge::shrink(text),
-        "shrink --draw" => snapjudge::shrink_drawn(text),
-        "shrink --map" => snapjudge::shrink_map(text),
-        "explain --faults 3" => snapjudge::explain_faults(text, 3),
-        "explain --all --faults 3" => snapjudge::explain_all_faults(text, 3),
-        "draw" => snapjudge::draw(text, Form::Page),
-        "draw --svg" => snapjudge::draw(text, Form::Svg),
-        "draw --text" => snapjudge::draw(text, Form::Lines),
-        "draw --light" => snapjudge::draw(text, Form::LightPage),
-        "draw --dark" => snapjudge::draw(text, Form::DarkPage),
-        "draw --svg --calls 5" => snapjudge::draw_part(text, Form::Svg, snapjudge::Part { calls: 5, ..Default::default() }),
-        "draw --svg --dark" => snapjudge::draw(text, Form::DarkSvg),
-        "stats" => snapjudge::stats_lines(text).map(stats_lines),
-        "stats --format json" => stats(text),
-        "values" => values(text),
+        "check" => judge.report(text),
+        "explain" => judge.explain(text),
+        "explain --draw" => judge.explain_drawn(text),
+        "explain --all" => judge.explain_all(text),
+        "explain --all --draw" => judge.explain_all_drawn(text),
+        "check --format json" => judge.json(text, "-"),
+        "shrink" => judge.shrink(text),
+        "shrink --draw" => judge.shrink_drawn(text),
+        "shrink --map" => judge.shrink_map(text),
+        "explain --faults 3" => judge.explain_faults(text, 3),
+        "explain --all --faults 3" => judge.explain_all_faults(text, 3),
+        "draw" => judge.draw(text, Form::Page),
+        "draw --svg" => judge.draw(text, Form::Svg),
+        "draw --text" => judge.draw(text, Form::Lines),
+        "draw --light" => judge.draw(text, Form::LightPage),
+        "draw --dark" => judge.draw(text, Form::DarkPage),
+        "draw --svg --calls 5" => judge.draw_part(text, Form::Svg, Part { calls: 5, ..Default::default() }),
+        "draw --svg --dark" => judge.draw(text, Form::DarkSvg),
+        "stats" => judge.stats_lines(text).map(stats_lines),
+        "stats --format json" => stats(judge, text),
+        "values" => values(judge, text),
         _ => panic!("there is no command {words}"),
     }
 }
@@ -38,8 +38,8 @@ fn stats_lines(text: String) -> Answer {
 }
 
 /// What a run has shown, written as the program writes its object.
-fn stats(text: &[u8]) -> Result<Answer, Error> {
-    let shown = match snapjudge::stats(text) {
+fn stats(judge: Judge, text: &[u8]) -> Result<Answer, Error> {
+    let shown = match judge.stats(text) {
         Err(Error::Refused(refusal)) => return Ok(Answer { status: Status::Refused, text: refused(&refusal) }),
         shown => shown?,
     };
@@ -80,8 +80,8 @@ fn refused(refusal: &Refusal) -> String {
 
 /// The values of a text, written as the program writes them: its object, and below it the order of the report. Of a text that is not a
 /// history they are the object and the sentences.
-fn values(text: &[u8]) -> Result<Answer, Error> {
-    match snapjudge::check(text) {
+fn values(judge: Judge, text: &[u8]) -> Result<Answer, Error> {
+    match judge.check(text) {
         Err(Error::Refused(refusal)) => {
             let text = refused(&refusal) + &format!("{}\n", Error::Refused(refusal));
             Ok(Answer { status: Status::Refused, text })
@@ -186,7 +186,11 @@ fn main() -> io::Result<()> {
         let (length, words) = line.trim_end().split_once(' ').expect("a length and a command");
         let mut text = vec![0; length.parse().expect("a length")];
         input.read_exact(&mut text)?;
-        let answer = answer(words, &text).expect("an answer");
+        let (judge, words) = match words.strip_suffix(" --writers many") {
+            Some(words) => (Judge::default().with_many_writers(), words),
+            None => (Judge::default(), words),
+        };
+        let answer = answer(judge, words, &text).expect("an answer");
         write!(output, "{} {}\n{}", answer.status as u32, answer.text.len(), answer.text)?;
         output.flush()?;
         line.clear();

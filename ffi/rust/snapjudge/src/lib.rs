@@ -1,7 +1,8 @@
 //! Judges a recorded history of a single-writer board: is it atomic, only regular, or neither?
 //!
 //! [`check`] gives the verdict as values. [`report`], [`explain`], [`shrink`], [`draw`] and [`json`] give what the commands of the
-//! program write, to the byte. [`stats`] counts what a run has shown. A history may be a `&str`, a `&[u8]`, or what stands for one. A [`Judge`] takes longer histories.
+//! program write, to the byte. [`stats`] counts what a run has shown. A history may be a `&str`, a `&[u8]`, or what stands for one. A
+//! [`Judge`] takes longer histories, and many writers of a component.
 //!
 //! What the library answers is proved. This crate, which calls it and makes values of its JSON, is not. It reads the JSON itself, and
 //! has no dependencies, so that it builds without a network.
@@ -162,7 +163,7 @@ pub enum RoomError {
     OutOfMemory,
 }
 
-/// The calls of this crate with another limit of events.
+/// The calls of this crate with another limit of events, or for many writers of a component.
 ///
 /// ```
 /// use snapjudge::{Error, Judge};
@@ -175,6 +176,7 @@ pub enum RoomError {
 #[derive(Clone, Copy, Debug, PartialEq, Eq)]
 pub struct Judge {
     events: u32,
+    many_writers: bool,
 }
 
 impl Default for Judge {
@@ -186,11 +188,25 @@ impl Default for Judge {
 impl Judge {
     /// The judge of histories of at most this many events, from 1 to 1,048,576. Other limits give [`Error::NoLimit`] when it judges.
     pub const fn of(events: u32) -> Self {
-        Judge { events }
+        Judge { events, many_writers: false }
+    }
+
+    /// The same judge, of histories whose components may have many writers, as by `--writers many`.
+    ///
+    /// ```
+    /// use snapjudge::{Error, Judge};
+    /// let begins = "event,process,op,data\nbegin,0,update,0:1:5\nbegin,1,update,0:2:6\n";
+    /// let text = format!("{begins}end,0,update,\nend,1,update,\n");
+    /// assert!(Judge::default().with_many_writers().check(&text)?.is_atomic());
+    /// assert!(matches!(Judge::default().check(&text), Err(Error::Refused(refusal)) if refusal.word == "writer"));
+    /// # Ok::<(), Error>(())
+    /// ```
+    pub const fn with_many_writers(self) -> Self {
+        Judge { many_writers: true, ..self }
     }
 
     fn ask(self, question: Question<'_>, text: &[u8]) -> Result<Answer, Error> {
-        library::answer(question, text, self.events)
+        library::answer(question, text, self)
     }
 
     /// The object of a history. A text that is not a history is an error.
@@ -225,7 +241,7 @@ impl Judge {
 
     /// As [`report_into()`].
     pub fn report_into(self, text: impl AsRef<[u8]>, room: &mut [u8]) -> Result<(Status, usize), RoomError> {
-        library::answer_into(Question::Report, text.as_ref(), self.events, room)
+        library::answer_into(Question::Report, text.as_ref(), self, room)
     }
 
     /// As [`explain()`].

@@ -1,8 +1,11 @@
 //! The calls of libsnapjudge.a. What they answer is proved; this file is not.
-use crate::{Answer, Error, Form, Part, RoomError, Status};
+use crate::{Answer, Error, Form, Judge, Part, RoomError, Status};
 
 /// The version of the library that this crate is for.
 const VERSION: u32 = 1;
+
+/// What is added to a number of events where a component may have many writers.
+const MANY_WRITERS: u32 = 1 << 31;
 
 const NO_ROOM: u32 = 5;
 const NO_LIMIT: u32 = 6;
@@ -100,9 +103,18 @@ pub(crate) enum Question<'a> {
     Stats { object: bool },
 }
 
+// The number by which the library knows the limit of a judge. It is 0, which is no limit, if the events alone would ask for many writers.
+fn limit_of(judge: Judge) -> u32 {
+    match judge {
+        Judge { events: MANY_WRITERS.., .. } => 0,
+        Judge { events, many_writers: true } => MANY_WRITERS + events,
+        Judge { events, many_writers: false } => events,
+    }
+}
+
 /// What the library answers, and the length of what it writes.
-fn call(question: Question<'_>, text: &[u8], events: u32, room: &mut [u8]) -> (u32, usize) {
-    let mut length = 0;
+fn call(question: Question<'_>, text: &[u8], judge: Judge, room: &mut [u8]) -> (u32, usize) {
+    let (events, mut length) = (limit_of(judge), 0);
     let (from, bytes, to, most, end) = (text.as_ptr(), text.len(), room.as_mut_ptr(), room.len(), &mut length);
     // SAFETY: the pointers and lengths are those of a `&[u8]` or `&str`, a `&mut [u8]` and a `&mut usize`. They are never null, lie
     // apart, are initialized, and are borrowed for the call. The library's memory is the C library's, as is Rust's `System`.
@@ -131,17 +143,17 @@ fn call(question: Question<'_>, text: &[u8], events: u32, room: &mut [u8]) -> (u
 pub(crate) fn answer_into(
     question: Question<'_>,
     text: &[u8],
-    events: u32,
+    judge: Judge,
     room: &mut [u8],
 ) -> Result<(Status, usize), RoomError> {
-    let (answer, length) = call(question, text, events, room);
+    let (answer, length) = call(question, text, judge, room);
     match answer {
         0 => Ok((Status::Atomic, length)),
         1 => Ok((Status::Regular, length)),
         2 => Ok((Status::Irregular, length)),
         3 => Ok((Status::Refused, length)),
         NO_ROOM => Err(RoomError::TooLittle(length)),
-        NO_LIMIT => Err(RoomError::NoLimit(events)),
+        NO_LIMIT => Err(RoomError::NoLimit(judge.events)),
         NO_OPTION => Err(RoomError::NoPart),
         _ => Err(RoomError::OutOfMemory),
     }
@@ -156,11 +168,11 @@ fn room_of(size: usize) -> Result<Vec<u8>, Error> {
 }
 
 /// The answer to a question, in room of its own. It is asked again if the first room is too small.
-pub(crate) fn answer(question: Question<'_>, text: &[u8], events: u32) -> Result<Answer, Error> {
+pub(crate) fn answer(question: Question<'_>, text: &[u8], judge: Judge) -> Result<Answer, Error> {
     let mut size = text.len() + text.len() / 4 + 1024;
     loop {
         let mut room = room_of(size)?;
-        match answer_into(question, text, events, &mut room) {
+        match answer_into(question, text, judge, &mut room) {
             Ok((status, length)) => {
                 room.truncate(length);
                 return Ok(Answer { status, text: String::from_utf8(room).expect("an answer is UTF-8") });

@@ -92,7 +92,7 @@ pub struct Refusal {
     pub sentences: String,
 }
 
-/// What a run has shown of a component: the process that writes it, its updates, and the views that list it.
+/// What a run has shown of a component: the process of its first update, its updates, and the views that list it.
 #[derive(Clone, Copy, Debug, PartialEq, Eq)]
 pub struct ComponentStats {
     pub component: u8,

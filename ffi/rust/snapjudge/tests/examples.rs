@@ -104,13 +104,37 @@ fn the_caller_chooses_the_limit_of_events() {
 
 #[test]
 fn a_limit_that_there_is_not_is_told_and_the_room_stays_as_it_was() {
-    for events in [0, (1 << 20) + 1, u32::MAX] {
-        let mut room = [0xEE; 100];
-        let found = Judge::of(events).report_into("event,process,op,data\n", &mut room);
-        assert_eq!(found, Err(RoomError::NoLimit(events)));
-        assert_eq!(room, [0xEE; 100]);
-        assert_eq!(Judge::of(events).check("event,process,op,data\n"), Err(Error::NoLimit(events)));
+    // to the library the last but one is a limit of one event with many writers
+    for events in [0, (1 << 20) + 1, 1 << 31, (1 << 31) + 1, u32::MAX] {
+        for judge in [Judge::of(events), Judge::of(events).with_many_writers()] {
+            let mut room = [0xEE; 100];
+            let found = judge.report_into("event,process,op,data\n", &mut room);
+            assert_eq!(found, Err(RoomError::NoLimit(events)));
+            assert_eq!(room, [0xEE; 100]);
+            assert_eq!(judge.check("event,process,op,data\n"), Err(Error::NoLimit(events)));
+        }
     }
+}
+
+#[test]
+fn a_component_has_many_writers_where_the_caller_says_so() {
+    let begins = "event,process,op,data\nbegin,0,update,0:1:5\nbegin,1,update,0:2:6\n";
+    let text = format!("{begins}end,0,update,\nend,1,update,\n");
+    let many = Judge::default().with_many_writers();
+    assert_eq!(refused(Judge::default(), &text), (3, "writer".to_owned()));
+    let judged = many.check(&text).unwrap();
+    let verdicts = "events 4 calls 2 pending 0 views 0\nregular yes\nmonotone yes\natomic yes\n";
+    assert_eq!(judged.report, format!("{verdicts}order 2\n1 p0 update 0:1:5\n2 p1 update 0:2:6\n"));
+    let step = |call, process, number, value| Step { call, process, op: Op::Update(Entry { component: 0, number, value }) };
+    assert_eq!(judged.verdict, Verdict::Atomic { order: vec![step(1, 0, 1, 5), step(2, 1, 2, 6)] });
+    assert_eq!(many.report(&text).unwrap(), Answer { status: Status::Atomic, text: judged.report });
+    assert_eq!(many.shrink(&text).unwrap(), Answer { status: Status::Atomic, text: text.clone() });
+    assert_eq!(many.draw(&text, snapjudge::Form::Page).unwrap().status, Status::Atomic);
+    let shown = many.stats(&text).unwrap();
+    assert_eq!((shown.updates, shown.processes, shown.by_component[0].writer), (2, 2, 0));
+    assert_eq!(refused(many, &format!("{begins}end,1,update,\nend,0,update,\n")), (4, "order".to_owned()));
+    assert_eq!(refused(Judge::of(3).with_many_writers(), &text), (5, "toomany".to_owned()));
+    assert_eq!(many.with_many_writers(), many);
 }
 
 #[test]
