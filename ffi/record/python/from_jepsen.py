@@ -1,6 +1,6 @@
 """Makes histories for `snapjudge check` of histories that Jepsen recorded.
 
-    python3 from_jepsen.py [--into DIR] [--initial WORD] [--versions] [--events N] HISTORY..
+    python3 from_jepsen.py [--into DIR] [--initial WORD] [--versions [--writers WRITERS]] [--events N] HISTORY..
 
 Two files, Python 3.8 or later, no dependencies: this one and merge_logs.py beside it. A HISTORY is EDN, one operation a line or in one
 vector, or JSON with one operation a line. Each operation has `type`, `f`, `process` and `value`; nemesis operations are passed over.
@@ -11,6 +11,8 @@ docs/JEPSEN.md of snapjudge says which operations are taken.
     --initial WORD  what a read shows of a key that nobody has written; nil always counts as that too
     --versions      operations have `version`, by which the store orders the writes of a key: a number, or a map from keys to numbers;
                     a HISTORY in which no operation has one is taken without
+    --writers many  with --versions: writes of a key may overlap in a history, which is for `snapjudge check --writers many`; with `one`,
+                    the default, they are parted
     --events N      how many events a history may have, 65536 by default; `snapjudge check` then needs the same
 
 Without --into the one history goes to standard output. Each HISTORY is taken by itself, and the status is the greatest of all. It
@@ -277,7 +279,7 @@ def convert(name, text, has_versions=False):
     return converter.calls, list(converter.keys), has_versions
 
 
-def histories(name, text, initial=None, has_versions=False, limit=EVENT_LIMIT):
+def histories(name, text, initial=None, has_versions=False, limit=EVENT_LIMIT, has_many=False):
     """Of each set of keys that are read together its keys, its history, its words, and what standard error is to say of it."""
     calls, keys, has_versions = convert(name, text, has_versions)
     parts = sorted({tuple(sorted(call.shown)) for call in calls if call.op == "view" and call.ended is not None})
@@ -285,7 +287,8 @@ def histories(name, text, initial=None, has_versions=False, limit=EVENT_LIMIT):
         if len(part) > COMPONENT_LIMIT:
             raise NotTaken(name, 1, f"an operation reads more than {COMPONENT_LIMIT} keys")
         places = {component: place for place, component in enumerate(part)}
-        yield [keys[component] for component in part], *merge(list(placed(calls, places)), (initial,), None, True, limit, has_versions)
+        merged = merge(list(placed(calls, places)), (initial,), None, True, limit, has_versions, has_versions and has_many)
+        yield [keys[component] for component in part], *merged
 
 
 def placed(calls, places):
@@ -311,10 +314,10 @@ def words_of_command():
     parser = Parser(description="Makes histories for snapjudge of histories that Jepsen recorded.")
     parser.add_argument("--into", metavar="DIR", help="writes each history into DIR")
     parser.add_argument("--initial", metavar="WORD", type=first_value, help="what a read shows of a key that nobody has written, else nil")
-    parser.add_argument("--versions", action="store_true", help="operations have `version`, by which the store orders writes")
+    parser.add_versions("operations have `version`, by which the store orders writes")
     parser.add_argument("--events", metavar="N", type=events, default=EVENT_LIMIT, help=f"how many events a history may have, else {EVENT_LIMIT}")
     parser.add_argument("histories", metavar="HISTORY", nargs="+", help="a history in EDN or lines of JSON")
-    words = parser.parse_args()
+    words = parser.words()
     if words.into is None and len(words.histories) > 1:
         parser.error(f"{len(words.histories)} histories can't go to standard output: give --into DIR")
     return words
@@ -328,7 +331,7 @@ def write(path, text):
 def take(name, words):
     """Writes the histories of one file."""
     with open(name, encoding="utf-8-sig", errors="surrogateescape") as file:
-        made = list(histories(name, file.read(), words.initial, words.versions, words.events))
+        made = list(histories(name, file.read(), words.initial, words.versions, words.events, words.has_many))
     if not made:
         raise NotTaken(name, 1, "no read has ended, so there is nothing to judge: let clients read too")
     if words.into is None and len(made) > 1:

@@ -1,6 +1,7 @@
 """Puts the logs of several processes together as one history for `snapjudge check`.
 
-    python3 merge_logs.py [--error NS] [--initial VALUE[,VALUE..]] [--part K[,K..]] [--table FILE] [--versions] [--events N] LOG..
+    python3 merge_logs.py [--error NS] [--initial VALUE[,VALUE..]] [--part K[,K..]] [--table FILE] [--versions [--writers WRITERS]]
+                          [--events N] LOG..
 
 One file, Python 3.8 or later, no dependencies: copy it into a harness. docs/RECORDING.md of snapjudge has the form of a log.
 The history goes to standard output.
@@ -10,10 +11,12 @@ The history goes to standard output.
     --part K,..      takes these components alone, and the views that list each of them
     --table FILE     values may be any words, and FILE then has the number that stands for each: lines NUMBER,WORD
     --versions       the store numbers the updates of a component: ends of updates and entries of views have these versions
+    --writers many   with --versions: updates of a component may overlap in the history, which is for `snapjudge check --writers many`;
+                     with `one`, the default, they are parted
     --events N       how many events the history may have, 65536 by default; `snapjudge check` then needs the same
 
-If several processes update a component, its updates get a process of their own, and standard error says so. It also says which
-updates were left out or cut short.
+If several processes update a component, its updates get a process of their own, and standard error says so; with `--writers many`
+each keeps its process. It also says which updates were left out or cut short.
 
 The status is 0 if the history was written. It is 1 if the versions contradict time, so that the run is not atomic, and no
 history was written. It is 3 if the logs are not a history: standard error then has the log, the line, a word and a sentence. It
@@ -226,15 +229,15 @@ def read_log(log, text, error=0, has_words=False, has_versions=False):
 
 class Component:
     """The updates of one component, as the history has them: `updates` are in the order of their numbers. Once those that overlap are
-    parted, none overlaps the next.
+    parted, none overlaps the next. With many writers they are not parted, and begin and end in that order.
 
     Without versions their begins give that order. With them the versions do, and each update is cut to the times that the order
     allows it: it comes after the begin of each update with a lower version, and before the end of each with a higher one. Then the
     same orders of all calls explain the run. An update without an end that no view shows may be left out. One that a view shows took
-    effect before the end of that view.
+    effect before the end of that view, and with one writer ends with it, if others come after it.
     """
 
-    def __init__(self, component, updates, first_shown, has_versions):
+    def __init__(self, component, updates, first_shown, has_versions, has_many):
         self.component, self.first_shown, self.has_versions = component, first_shown, has_versions
         self.updates = sorted(updates, key=lambda update: update.begun)
         kept = [update for update in self.updates if not self.may_go(update)]
@@ -246,7 +249,7 @@ class Component:
             kept.sort(key=lambda update: update.versions[component])
             for update, later in zip(kept, kept[1:]):
                 later.require(update.versions[component] != later.versions[component], "versions", update)
-        self.updates = self.cut([self.ended(update, update is kept[-1]) for update in kept])
+        self.updates = self.cut(kept if has_many else [self.ended(update, update is kept[-1]) for update in kept])
         self.kept = kept
         for update, later in zip(self.updates, self.updates[1:]):
             later.require(has_versions or not overlap(update, later), "overlap", update)
@@ -357,7 +360,7 @@ def moments_of(updates, views):
 class Board:
     """All calls, as the history has them, and the updates of each component, numbered from 1 on."""
 
-    def __init__(self, calls, initials, has_versions=False):
+    def __init__(self, calls, initials, has_versions=False, has_many=False):
         self.initials, self.numbers, self.begun, self.told = initials, {}, {}, []
         views = sorted((call for call in calls if call.op == "view" and call.ended is not None), key=lambda view: view.ended)
         written = self.written(call for call in calls if call.op == "update")
@@ -371,14 +374,15 @@ class Board:
             updates.setdefault(k, []).append(update)
         free = self.free_processes(calls)
         self.calls = [call for call in calls if call.op == "view"]
-        components = {k: Component(k, updates[k], first_shown, has_versions) for k in sorted(updates)}
-        if any(overlap(*pair) for component in components.values() for pair in zip(component.updates, component.updates[1:])):
+        components = {k: Component(k, updates[k], first_shown, has_versions, has_many) for k in sorted(updates)}
+        pairs = [pair for component in components.values() for pair in zip(component.updates, component.updates[1:])]
+        if not has_many and any(overlap(*pair) for pair in pairs):
             moments = moments_of({k: component.updates for k, component in components.items()}, views)
             for k, component in components.items():
                 component.part(moments[k])
         for k, component in components.items():
             process = None
-            if len(component.writers) > 1:
+            if not has_many and len(component.writers) > 1:
                 process = next(free, None)
                 component.updates[0].require(process is not None, "process-limit")
             self.told += component.told(process)
@@ -449,8 +453,10 @@ def chosen(calls, part):
     return updates + [dataclasses.replace(view, shown=within(view.shown), versions=within(view.versions)) for view in views]
 
 
-def stamped(calls, limit):
-    """The events, by stamps that rise: at one reading the begins come before the ends, so that such calls overlap."""
+def stamped(calls, limit, has_many):
+    """The events, by stamps that rise: at one reading the begins come before the ends, so that such calls overlap. With many writers
+    these begins, and these ends, are in the order of the calls, which for the updates of a component is that of their numbers.
+    """
     places = {process: place for place, process in enumerate(sorted({call.process for call in calls}))}
     least = min((call.begun for call in calls), default=0)
 
@@ -459,12 +465,14 @@ def stamped(calls, limit):
 
     def place(reading, turn, call, is_end):
         """Cuts at a reading come after its begins and before its ends, in their turn."""
-        return (reading, 2 * is_end, places[call.process]) if turn is None else (reading, 1, 2 * turn + (not is_end))
+        if turn is not None:
+            return reading, 1, 2 * turn + (not is_end)
+        return reading, 2 * is_end, 0 if has_many else places[call.process]  # equal places keep the order of the calls
 
     begins = [(place(call.begun, call.begun_in_turn, call, False), "begin", call) for call in calls]
     ends = [(place(call.ended, call.ended_in_turn, call, True), "end", call) for call in calls if call.ended is not None]
     events = sorted(begins + ends, key=lambda event: event[0])
-    if any(call.begun_in_turn is not None for call in calls):
+    if has_many or any(call.begun_in_turn is not None for call in calls):
         events = [(at, event, call) for at, (_, event, call) in enumerate(events)]
     else:
         events = [(stamp(call, reading, event == "end"), event, call) for (reading, _, _), event, call in events]
@@ -475,15 +483,15 @@ def stamped(calls, limit):
     return events
 
 
-def merge(calls, initials=("0",), part=None, has_words=False, limit=EVENT_LIMIT, has_versions=False):
-    """The history of the calls of all logs, its table of words, and what standard error is to say of it."""
-    board = Board(chosen(calls, part), initials, has_versions)
+def merge(calls, initials=("0",), part=None, has_words=False, limit=EVENT_LIMIT, has_versions=False, has_many=False):
+    """The history of the calls of all logs, its table of words, and what standard error is to say of it. Many writers need versions."""
+    board = Board(chosen(calls, part), initials, has_versions, has_many)
     lines, table = ["at,event,process,op,data"], {}
 
     def spelled(value):
         return table.setdefault(value, len(table)) if has_words else value
 
-    for stamp, event, call in stamped(board.calls, limit):
+    for stamp, event, call in stamped(board.calls, limit, has_many):
         entries = board.entries(call) if (event, call.op) in HAVE_DATA else []
         data = " ".join(f"{component}:{number}:{spelled(value)}" for component, number, value in entries)
         lines.append(f"{stamp},{event},{call.process},{call.op},{data}")
@@ -508,6 +516,19 @@ def read_logs(names, error=0, has_words=False, has_versions=False):
 class Parser(argparse.ArgumentParser):
     def error(self, message):
         self.exit(5, f"{self.prog}: {message}\n")
+
+    def add_versions(self, told):
+        self.add_argument("--versions", help=told, action="store_true")
+        told = "many: updates of a component may overlap in the history, for snapjudge check --writers many; the default is one"
+        self.add_argument("--writers", help=told, choices=("one", "many"), default="one")
+
+    def words(self):
+        """The words of the command line, in which many writers need versions."""
+        words = self.parse_args()
+        words.has_many = words.writers == "many"
+        if words.has_many and not words.versions:
+            self.error("--writers many needs --versions: record the versions of the store, and give both")
+        return words
 
 
 def words_of_command():
@@ -539,10 +560,10 @@ def words_of_command():
     option("--part", "K[,K..]", "takes these components alone, and the views that list each of them", type=components)
     option("--table", "FILE", "values may be any words; FILE then has the number for each, in lines NUMBER,WORD")
     told = "the store numbers the updates of a component: ends of updates and entries of views have these versions"
-    parser.add_argument("--versions", help=told, action="store_true")
+    parser.add_versions(told)
     option("--events", "N", f"how many events the history may have; the default is {EVENT_LIMIT}", type=events, default=EVENT_LIMIT)
     option("logs", "LOG", "the log of one process", nargs="+")
-    words = parser.parse_args()
+    words = parser.words()
     if words.table is None and not all(number_below(1 << 32, value) is not None for value in words.initial):
         parser.error("a first value has 32 bits, or with --table is a word")
     return words
@@ -553,7 +574,7 @@ def main():
     has_words = words.table is not None
     try:
         calls = read_logs(words.logs, words.error, has_words, words.versions)
-        history, table, told = merge(calls, words.initial, words.part, has_words, words.events, words.versions)
+        history, table, told = merge(calls, words.initial, words.part, has_words, words.events, words.versions, words.has_many)
         for line in told:
             print(line, file=sys.stderr)
         if has_words:

@@ -271,7 +271,37 @@ class Logs(unittest.TestCase):
     def test_versions_against_time(self):
         logs = [log_of("1,begin,0,update,5:1", "2,end,0,update,8"), log_of("3,begin,1,update,5:2", "4,end,1,update,7")]
         told = "1.log:2 and 0.log:2: not atomic: the first update has the lower version, and it began after the second had ended\n"
-        self.assertEqual(self.merge(logs, "--versions"), (1, "", told))
+        for writers in ("one", "many"):
+            self.assertEqual(self.merge(logs, "--versions", "--writers", writers), (1, "", told))
+
+    def test_many_writers(self):
+        """Each update keeps its process. The version of the first one is higher, so the second one ends no later than it, and before it."""
+        first = log_of("1,begin,0,update,5:1", "9,end,0,update,8")
+        second = log_of("2,begin,1,update,5:2", "12,end,1,update,7")
+        logs = [first, second, log_of(*view(2, 3, 5, "5:7:2"), *view(2, 6, 7, "5:8:1"))]
+        updates = "0,begin,1,update,5:1:2", "1,begin,0,update,5:2:1", "6,end,1,update,", "7,end,0,update,"
+        views = "2,begin,2,view,", "3,end,2,view,5:1:2", "4,begin,2,view,", "5,end,2,view,5:2:1"
+        history = "\n".join([STAMPED, *sorted(updates + views), ""])
+        told = "component 5: updates cut short: 2; atomic stays as it is, regular may become stricter\n"
+        self.assertEqual(self.merge(logs, "--versions", "--writers", "many"), (0, history, told))
+        verdicts = ["events 8 calls 4 pending 0 views 2", "regular yes", "monotone yes", "atomic yes", "order 4"]
+        order = ["1 p1 update 5:1:2", "3 p2 view 5:1:2", "2 p0 update 5:2:1", "4 p2 view 5:2:1"]
+        self.assertEqual(judge(history, "--writers", "many"), (0, verdicts + order))
+        self.assertEqual(self.merge(logs, "--versions", "--writers", "one"), self.merge(logs, "--versions"))
+
+    def test_many_writers_without_an_end(self):
+        """Updates that a view shows stay, and the versions alone cut them. Parted, the first of two ends before the last view begins."""
+        many, views = ("--versions", "--writers", "many"), log_of(*view(2, 3, 4, "5:8:2"), *view(2, 5, 6, "5:"))
+        for ends in ([], ["9,end,1,update,8"]):
+            logs = [log_of("1,begin,0,update,5:1"), log_of("2,begin,1,update,5:2", *ends), views, log_of(*view(3, 3, 4, "5:7:1"))]
+            status, history, told = self.merge(logs, *many)
+            self.assertEqual((status, told.count("cut short: 1"), told.count("\n")), (0, len(ends), len(ends)))
+            self.assertEqual((history.count(",begin,"), history.count(",end,")), (5, 3 + 2 * len(ends)))
+            self.assertEqual(judge(history, "--writers", "many", "--quiet"), (1, ["regular yes", "monotone no", "atomic no"]))
+            self.assertEqual(judge(self.merge(logs, "--versions")[1], "--quiet"), (2, ["regular no", "monotone no", "atomic no"]))
+        unseen = [log_of("1,begin,0,update,5:1"), log_of("2,begin,1,update,5:2", "9,end,1,update,8")]
+        told = "component 5: updates without an end that no view shows, left out: 1\n"
+        self.assertEqual(self.merge(unseen, *many), (0, f"{STAMPED}\n0,begin,1,update,5:1:2\n1,end,1,update,\n", told))
 
     # ---- what is wrong
 
@@ -375,6 +405,12 @@ class Logs(unittest.TestCase):
         for words in (["--error", "-1"], ["--part", "256"], ["--part", ""], ["--initial", "x"], ["--unknown"], ["--events", "0"], ["--events", "1048577"]):
             self.assertEqual(self.merge([log_of()], *words)[:2], (5, ""))
         self.assertEqual(self.merge([], "--help")[0], 0)
+        told = "--writers many needs --versions: record the versions of the store, and give both"
+        self.assertEqual(self.merge([log_of()], "--writers", "many"), (5, "", f"merge_logs.py: {told}\n"))
+        status, history, told = self.merge([log_of()], "--versions", "--writers", "two")
+        self.assertEqual((status, history), (5, ""))
+        self.assertTrue(told.startswith("merge_logs.py: argument --writers: invalid choice: 'two'"))
+        self.assertEqual(self.merged([log_of()], "--writers", "one"), f"{STAMPED}\n")
 
     def test_files_that_fail(self):
         missing = (4, "", "merge_logs.py: missing.log: No such file or directory\n")

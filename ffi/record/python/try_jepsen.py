@@ -141,13 +141,14 @@ class Jepsen(unittest.TestCase):
 
     def test_small_runs_beside_all_orders(self):
         draw, found = random.Random(9), collections.Counter()
-        for at in range(1500):
+        for at in range(3000):
             calls = random_calls(draw)
             operations = spoken(calls)
             if not any(call.op == "view" for call in calls):
                 continue
+            has_many = at % 4 > 1
             try:
-                (history,) = made((in_edn if at % 2 else in_json)(operations), has_versions=True)
+                (history,) = made((in_edn if at % 2 else in_json)(operations), has_versions=True, has_many=has_many)
             except Contradiction:
                 found["contradiction"] += 1
                 self.assertFalse(has_order(calls))
@@ -156,7 +157,7 @@ class Jepsen(unittest.TestCase):
                 self.fail(error)
             is_atomic = has_order(calls)
             found[is_atomic] += 1
-            self.assertEqual(has_order(calls_of(history)), is_atomic)
+            self.assertEqual(has_order(calls_of(history, has_many)), is_atomic)
         self.assertGreater(min(found.values()), 20)
         self.assertEqual(len(found), 3)
 
@@ -179,13 +180,16 @@ class Jepsen(unittest.TestCase):
         """By versions the judge takes writes of one key that overlap: right stores are atomic, and some run of the others is caught."""
         caught = collections.Counter()
         for kind in ("right", "stale"):
-            runs = []
+            runs, as_many = [], []
             for seed in range(10):
                 text = in_edn(Store(random.Random(seed), kind).run(200, share_keys=True, at_once=True))
                 with self.assertRaises(LogError):
                     made(text)
                 runs += made(text, has_versions=True)
-            caught[kind] = judge(runs).count(False)
+                as_many += made(text, has_versions=True, has_many=True)
+            atomic = judge(runs)
+            self.assertEqual(judge(as_many, "--writers", "many"), atomic)
+            caught[kind] = atomic.count(False)
         self.assertEqual(caught["right"], 0)
         self.assertGreater(caught["stale"], 5)
 
@@ -207,6 +211,7 @@ class Jepsen(unittest.TestCase):
         self.assertEqual([line.count(",") for line in made(in_edn(operations))[0].split("\n")], [line.count(",") for line in first.split("\n")])
         self.assertEqual(made(in_edn(operations))[1].count("\n"), second.count("\n"))
         self.assertEqual(judge(made(in_edn(operations))), [True, True])
+        self.assertEqual(made(in_edn(operations), has_versions=True, has_many=True), made(in_edn(operations)))
 
     def test_failed_operations(self):
         """A write that failed is left out, and so is a read that failed or has no answer."""
@@ -278,6 +283,13 @@ class Jepsen(unittest.TestCase):
             self.assertEqual(command("--initial", "]", "right.edn").returncode, 5)
             self.assertEqual(command("--events", "0", "right.edn").returncode, 5)
             self.assertEqual(command("--events", "4", "right.edn").returncode, 3)
+            self.assertEqual(command("--versions", "--writers", "two", "right.edn").returncode, 5)
+            alone = command("--writers", "many", "right.edn")
+            self.assertEqual((alone.returncode, alone.stdout), (5, ""))
+            self.assertIn("from_jepsen.py: --writers many needs --versions: ", alone.stderr)
+            many = command("--versions", "--writers", "many", "right.edn")
+            self.assertEqual(many.returncode, 0)
+            self.assertEqual(judge([many.stdout], "--writers", "many"), [True])
             with open(f"{folder}/writes.edn", "w") as file:
                 file.write(in_edn([operation("invoke", "write", 0, 3)]))
             self.assertIn("nothing to judge", command("writes.edn").stderr)

@@ -3,7 +3,7 @@
 Each run has up to six calls on two components. Updates come from any process. The store orders the updates of a component, and each
 order of all calls is tried: one that keeps precedence and the store's order, leaves out pending updates alone, and gives each view the
 last updates before it. There is one exactly if the merged history is atomic by its definition, which is tried in the same way. The
-program must say so too. Versions that contradict time leave no order.
+program must say so too. Versions that contradict time leave no order. With versions the same runs are also merged for many writers.
 """
 import collections
 import json
@@ -94,15 +94,18 @@ def logs_of(calls, has_versions):
         yield "\n".join([HEADER, *lines, ""])
 
 
-def merged(calls, has_versions):
+def merged(calls, has_versions, has_many=False):
     """The history that merge_logs.py makes of the logs of the calls."""
     made = [call for at, log in enumerate(logs_of(calls, has_versions)) for call in read_log(str(at), log, 0, False, has_versions)[0]]
-    return merge(made, initials=("99",), has_versions=has_versions)[0]
+    return merge(made, initials=("99",), has_versions=has_versions, has_many=has_many)[0]
 
 
-def calls_of(history):
-    """The calls of a history with stamps, and whether each process is the one writer of its components."""
+def calls_of(history, has_many=False):
+    """The calls of a history with stamps. Updates of a component begin and end in the order of their numbers, and if it has not many
+    writers, each is of one process.
+    """
     calls, open_calls, writers = [], {}, {}
+    begun, ended = collections.Counter(), collections.Counter()
     for line in sorted(history.splitlines()[1:], key=lambda line: int(line.split(",")[0])):
         stamp, event, process, op, data = line.split(",")
         entries = [tuple(map(int, entry.split(":"))) for entry in data.split()]
@@ -110,29 +113,36 @@ def calls_of(history):
             assert process not in open_calls
             component, number = entries[0][:2] if entries else (None, None)
             if op == "update":
-                assert writers.setdefault(component, process) == process
+                begun[component] += 1
+                assert number == begun[component]
+                assert has_many or writers.setdefault(component, process) == process
             open_calls[process] = len(calls)
             calls.append(Call(op, int(stamp), NEVER, component, number))
         else:
             at = open_calls.pop(process)
+            if op == "update":
+                ended[calls[at].component] += 1
+                assert calls[at].number == ended[calls[at].component]
             shown = {component: number for component, number, _ in entries}
             number = tuple(shown.get(k, 0) for k in range(COMPONENTS)) if op == "view" else calls[at].number
             calls[at] = calls[at]._replace(ended=int(stamp), number=number)
     return [call for call in calls if call.op == "update" or call.ended != NEVER]
 
 
-def judge(histories):
-    """Which of the histories the program calls atomic."""
+def judge(histories, *words):
+    """Which of the histories the program calls atomic. It refuses none."""
     with tempfile.TemporaryDirectory() as folder:
         for at, history in enumerate(histories):
             with open(f"{folder}/{at:05}.csv", "w") as file:
                 file.write(history)
-        done = subprocess.run([PROGRAM, "check", "--format", "json", "-r", folder], stdout=subprocess.PIPE, timeout=600)
-    return [json.loads(line)["status"] == 0 for line in done.stdout.splitlines()]
+        done = subprocess.run([PROGRAM, "check", *words, "--format", "json", "-r", folder], stdout=subprocess.PIPE, timeout=600)
+    statuses = [json.loads(line)["status"] for line in done.stdout.splitlines()]
+    assert set(statuses) <= {0, 1, 2}
+    return [status == 0 for status in statuses]
 
 
 class Orders(unittest.TestCase):
-    def compare(self, has_versions, seed):
+    def compare(self, has_versions, seed, has_many=False):
         """How the runs ended, by words."""
         draw, found, judged = random.Random(seed), collections.Counter(), []
         for _ in range(COUNT // 2):
@@ -141,7 +151,7 @@ class Orders(unittest.TestCase):
                 continue
             is_atomic = has_order(calls)
             try:
-                history = merged(calls, has_versions)
+                history = merged(calls, has_versions, has_many)
             except Contradiction:
                 self.assertFalse(is_atomic, calls)
                 found["contradiction"] += 1
@@ -150,17 +160,18 @@ class Orders(unittest.TestCase):
                 self.assertEqual((error.word, has_versions), ("overlap", False))
                 found[error.word] += 1
                 continue
-            self.assertEqual(has_order(calls_of(history)), is_atomic, (calls, history))
+            self.assertEqual(has_order(calls_of(history, has_many)), is_atomic, (calls, history))
             found["atomic" if is_atomic else "not atomic"] += 1
             judged.append((history, is_atomic))
-        judged = judged[:JUDGED]
-        self.assertEqual(judge([history for history, _ in judged]), [is_atomic for _, is_atomic in judged])
+        judged, words = judged[:JUDGED], ("--writers", "many") if has_many else ()
+        self.assertEqual(judge([history for history, _ in judged], *words), [is_atomic for _, is_atomic in judged])
         return found
 
     def test_versions(self):
-        found = self.compare(True, 5)
-        self.assertEqual(set(found), {"atomic", "not atomic", "contradiction"})
-        self.assertGreater(min(found.values()), COUNT // 100)
+        for has_many in (False, True):
+            found = self.compare(True, 5, has_many)
+            self.assertEqual(set(found), {"atomic", "not atomic", "contradiction"})
+            self.assertGreater(min(found.values()), COUNT // 100)
 
     def test_updates_in_turn(self):
         found = self.compare(False, 6)
