@@ -1,4 +1,4 @@
-"""Clients of one store, of which several write one key, and whose calls may fail; and the history of a run of them.
+"""Clients of one store, of which several write one key at one time, and whose calls may fail; and the history of a run of them.
 
 An update answers the version that the store gave it, and a view the version and the value of each key that somebody has written.
 merge_logs.py makes the history of their logs, so docs/RECORDING.md says what becomes of a call that failed.
@@ -22,6 +22,7 @@ from harness import RECORDERS
 PAUSE = 0.01  # at most, between two calls of a client, in seconds
 MARGIN = 0.4  # before what disturbs a run, and after it
 PATIENCE = 0.3  # how long a client waits for an answer
+MANY = ("--writers", "many")  # what merge_logs.py and the judge are told of such histories
 
 
 class NoEffect(ConnectionError):
@@ -62,15 +63,12 @@ class Log:
 
 
 class Run:
-    """A run of clients over keys 0, 1 and so on. Two updates of one key do not overlap: a client takes a key, and gives it back.
-
-    A key whose last update has an unknown end is not given back, since a later update would overlap with it.
-    """
+    """A run of clients over keys 0, 1 and so on. Each client updates each key, and updates of a key may overlap."""
 
     def __init__(self, folder, keys):
         self.folder, self.keys, self.is_over = folder, keys, threading.Event()
-        self.free, self.lock = set(range(keys)), threading.Lock()
-        self.processes, self.values, self.files = itertools.count(), itertools.count(1), contextlib.ExitStack()
+        self.lock, self.files = threading.Lock(), contextlib.ExitStack()
+        self.processes, self.values = itertools.count(), itertools.count(1)
 
     def log(self):
         """The log of a new process."""
@@ -79,26 +77,18 @@ class Run:
             file = open(f"{self.folder}/{process}.log", "w", buffering=1, encoding="ascii")
             return Log(self.files.enter_context(file), process)
 
-    def taken(self, choice):
-        """A free key and a new value, or None."""
-        with self.lock:
-            if not self.free:
-                return None
-            key = choice.choice(sorted(self.free))
-            self.free.discard(key)
-            return key, next(self.values)
-
     def work(self, client, seed):
         choice, log = random.Random(seed), self.log()
         while not self.is_over.wait(choice.random() * PAUSE):
-            taken = self.taken(choice) if choice.random() < 0.5 else None
-            if taken is None:
+            if choice.random() < 0.5:
                 self.view(client, log)
-            elif not self.update(client, log, *taken):
+            elif not self.update(client, log, choice.randrange(self.keys)):
                 log = self.log()
 
-    def update(self, client, log, key, value):
+    def update(self, client, log, key):
         """Whether its end is known."""
+        with self.lock:
+            value = next(self.values)
         log.note("begin", "update", f"{key}:{value}")
         try:
             version = client.update(key, value)
@@ -108,8 +98,6 @@ class Run:
             log.note("drop", "update")
         else:
             log.note("end", "update", version)
-        with self.lock:
-            self.free.add(key)
         return True
 
     def view(self, client, log):
@@ -124,9 +112,9 @@ class Run:
 
 
 def merged(folder):
-    """The history of the logs in a folder, by the versions of the store."""
+    """The history of the logs in a folder, by the versions of the store. Its components have many writers."""
     logs = sorted(pathlib.Path(folder).glob("*.log"))
-    command = [sys.executable, "-B", RECORDERS / "python/merge_logs.py", "--versions", *logs]
+    command = [sys.executable, "-B", RECORDERS / "python/merge_logs.py", "--versions", *MANY, *logs]
     done = subprocess.run(command, capture_output=True, text=True, check=False)
     if done.returncode:
         sys.exit(f"merge_logs.py ended with {done.returncode}: {done.stderr}")

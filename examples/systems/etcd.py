@@ -1,12 +1,12 @@
 """etcd: eight keys on three nodes, one of which fails for a while. usage: etcd.py PROGRAM FOLDER [RUNS]
 
-It wants root, and Debian's packages etcd-server and iproute2. Several clients write a key in turn; revisions give their order.
+It wants root, and Debian's packages etcd-server and iproute2. Several clients write a key at one time; revisions give their order.
 """
 import base64
 import itertools
 import random
 
-from clients import post, record
+from clients import MANY, post, record
 from harness import need, output, scratch, tabulate, wait_for
 from nodes import FAILURES, connected
 
@@ -54,7 +54,7 @@ def main():
             clients = [Client(nodes[place % NODES], prefix, serializable) for place in range(CLIENTS)]
             return record(clients, KEYS, seed, lambda: fail(random.Random(f"{way} {seed}").choice(nodes)))
 
-        tabulate(version.replace(" Version:", ""), WAYS, history)
+        tabulate(version.replace(" Version:", ""), WAYS, history, MANY)
 
 
 main()

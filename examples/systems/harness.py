@@ -81,16 +81,19 @@ def record(boards, seed, components=WORKERS):
     return recorder.text()
 
 
-def judge(program, command, text):
-    """What the judge writes of a history, and its status."""
-    done = subprocess.run([program, command], input=text, capture_output=True, text=True, check=False)
+def judge(program, command, text, words=()):
+    """What the judge writes of a history, and its status; the words are options."""
+    done = subprocess.run([program, command, *words], input=text, capture_output=True, text=True, check=False)
     if done.returncode >= len(VERDICTS):
         sys.exit(f"{program} {command} ended with {done.returncode}: {done.stderr}{done.stdout}")
     return done.stdout, done.returncode
 
 
-def tabulate(version, ways, history):
-    """Writes a row for each way, and a witness for each that was caught; history(way, seed) answers that of a run."""
+def tabulate(version, ways, history, words=()):
+    """Writes a row for each way, and a witness for each that was caught; history(way, seed) answers that of a run.
+
+    The judge gets the words for it. A witness has one writer of each component, and needs none.
+    """
     if len(sys.argv) not in (3, 4):
         sys.exit(f"usage: {sys.argv[0]} PROGRAM FOLDER [RUNS]")
     program, folder, runs = sys.argv[1], pathlib.Path(sys.argv[2]), int((sys.argv + [RUNS])[3])
@@ -103,7 +106,7 @@ def tabulate(version, ways, history):
         found = [0] * len(VERDICTS)
         for seed in range(runs):
             text = history(way, seed)
-            status = judge(program, "check", text)[1]
+            status = judge(program, "check", text, words)[1]
             found[status] += 1
             if status:
                 caught.setdefault(way, text)
@@ -111,7 +114,7 @@ def tabulate(version, ways, history):
     for way, text in caught.items():
         name = re.sub("[^a-z0-9]+", "-", f"{pathlib.Path(sys.argv[0]).stem} {way}".lower())
         (folder / f"{name}.csv").write_text(text)
-        witness, _ = judge(program, "shrink", text)
+        witness, _ = judge(program, "shrink", text, words)
         explanation, _ = judge(program, "explain", witness)
         print(f"\nWitness: {way}.\n\n```\n{witness}```\n\n```\n{explanation}```", flush=True)
 
