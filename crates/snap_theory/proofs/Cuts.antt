@@ -1,7 +1,7 @@
 -- Calls that fall into a front and a back, where each call of the front precedes each of the back.
 use Rattle.std.proofs.Common.{◌≡◌, ◌⊎◌, ℕ, ◌<◌, ◌≤◌, true, false, List, ◌++◌, Option, Some, None, refl, sym, ap, ◌∙◌, subst, inl, inr, arith}
 use Rattle.std.specs.List.{Contains}
-use Rattle.std.proofs.lemmas.Bool.{false≢true, false_from_ne_true}
+use Rattle.std.proofs.lemmas.Bool.{false≢true, cases_order, false_from_ne_true}
 use Rattle.snap_core.specs.declared.entry.Entry.{Entry}
 use Rattle.snap_core.specs.Entries.{number_in}
 use Rattle.snap_core.specs.Calls.{Call, Updates, precedes, shown, shown_number}
@@ -9,14 +9,14 @@ use Rattle.snap_core.specs.Monotone.{IsMonotone}
 use Rattle.snap_core.specs.Orders.{is_completed, last_written}
 use Rattle.snap_core.specs.Regular.{IsRegular, IsViewOf, IsUpdateOf, IsBegunBeforeEnd}
 use Rattle.snap_core.proofs.Lists.{In, In-from_Contains, Contains-from_In, In-append_left, In-append_right, In-append_cases, Pairs, Pairs-left, Pairs-weaker}
-use Rattle.snap_core.proofs.Facts.{AreCalls, precedes_to, shown_in, shown_number_at, shown_number_none}
-use Rattle.snap_core.proofs.Ordered.{begins_no_later, ordered_calls}
+use Rattle.snap_core.proofs.Facts.{precedes_to, shown_in, shown_number_at, shown_number_none}
+use Rattle.snap_core.proofs.Ordered.{AreOrderedCalls, begins_no_later}
 use Rattle.snap_theory.specs.Windows.{IsRegularFrom}
 use Rattle.snap_theory.specs.Versions.{IsLaterVersion}
-use Rattle.snap_theory.proofs.Last.{LastOf, NoneOf, last_of, later}
+use Rattle.snap_theory.proofs.Last.{LastOf, NoneOf, last_of}
 
 pub record IsCut (front back : List Call) : Type 0 where
-  pub calls : AreCalls (front ++ back)
+  pub calls : AreOrderedCalls (front ++ back)
   pub completed : (a : Call) → In a front → is_completed a ≡ true
   pub across : (a b : Call) → In a front → In b back → precedes a b ≡ true
 
@@ -52,7 +52,7 @@ update_side : (front back : List Call) (c : Call) (e : Entry) → IsUpdateOf (fr
 update_side front back c e u = elim (side front back c u.there) [ inl i ↦ inl (record { there = i; writes = u.writes }) | inr i ↦ inr (record { there = i; writes = u.writes }) ]
 
 -- no call precedes itself
-pub not_itself : (calls : List Call) → AreCalls calls → (a : Call) → Contains calls a → precedes a a ≡ true → ⊥
+pub not_itself : (calls : List Call) → AreOrderedCalls calls → (a : Call) → Contains calls a → precedes a a ≡ true → ⊥
 not_itself calls f a i h = let p = precedes_to a a h in omega (arith, p.before, f.rises a p.place i p.ends)
 
 -- a call of the front precedes one of the back, as the two know it
@@ -79,23 +79,24 @@ pub front_rises : (front back : List Call) → IsCut front back → Pairs IsLate
 front_rises front back x = Pairs-weaker (λ a b. a.number < b.number) IsLaterVersion front step (Pairs-left (λ a b. a.number < b.number) front back x.calls.numbered)
   where
     step : (a b : Call) → In a front → In b front → a.number < b.number → IsLaterVersion a b
-    step a b i j l = later (front ++ back) x.calls a b ia jb (false_from_ne_true _ back_first) (λ s. omega (arith, l, ap (λ (z : Call). z.number) s))
+    step a b i j l d e v w same = elim (cases_order d.number e.number) [
+      | inl eq ↦ absurd (omega (arith, l, ap (λ (z : Call). z.number) (x.calls.one a b d e ua ub same eq)))
+      | inr (inl less) ↦ less
+      | inr (inr more) ↦ absurd (omega (arith, l, x.calls.ordered b a ub.there ua.there (x.calls.begins b a e d ub ua (sym same) more)))
+    ]
       where
-        ia : Contains (front ++ back) a
-        ia = in_front front back a (Contains-from_In _ _ i)
+        ua : IsUpdateOf (front ++ back) a d
+        ua = record { there = in_front front back a (Contains-from_In _ _ i); writes = v }
 
-        jb : Contains (front ++ back) b
-        jb = in_front front back b (Contains-from_In _ _ j)
-
-        back_first : precedes b a ≡ true → ⊥
-        back_first h = let p = precedes_to b a h in omega (arith, l, x.calls.ordered b a jb ia (omega (arith, p.before, x.calls.rises b p.place jb p.ends)))
+        ub : IsUpdateOf (front ++ back) b e
+        ub = record { there = in_front front back b (Contains-from_In _ _ j); writes = w }
 
 -- what the front leaves of a component
 pub front_last : (front back : List Call) → IsCut front back → (k : ℕ) → NoneOf k front None (left_of front k) ⊎ LastOf k front (left_of front k)
 front_last front back x k = last_of k None front (front_rises front back x)
 
 -- an update of the front has at most the number left
-front_most : (front back : List Call) → IsCut front back → (c : Call) (e : Entry) → IsUpdateOf front c e → e.number ≤ number_in (left_of front e.component)
+pub front_most : (front back : List Call) → IsCut front back → (c : Call) (e : Entry) → IsUpdateOf front c e → e.number ≤ number_in (left_of front e.component)
 front_most front back x c e u = elim (front_last front back x e.component) [
   | inl n ↦ absurd (n.none c e (In-from_Contains _ _ u.there) u.writes refl)
   | inr w ↦ omega (arith, w.most c e (In-from_Contains _ _ u.there) u.writes refl, ap number_in w.is)
@@ -113,7 +114,7 @@ back_more front back x c e u = elim (front_last front back x e.component) [
         let i = Contains-from_In front w.call w.there in
         let p = across front back x w.call c i u.there in
         let z : IsUpdateOf front w.call w.entry = record { there = i; writes = w.writes } in
-        omega (arith, p.before, p.begun, begins_no_later (front ++ back) (ordered_calls (front ++ back) x.calls) c w.call e w.entry (back_update front back c e u) (front_update front back w.call w.entry z) (sym w.component) l)
+        omega (arith, p.before, p.begun, begins_no_later (front ++ back) x.calls c w.call e w.entry (back_update front back c e u) (front_update front back w.call w.entry z) (sym w.component) l)
 
 -- what is left was written: it has a number, and is of its component
 pub left_positive : (front back : List Call) → IsCut front back → (k : ℕ) (l : Entry) → left_of front k ≡ Some l → (0 < l.number) × (l.component ≡ k)

@@ -11,10 +11,13 @@ use Rattle.snap_core.specs.Orders.{is_completed, last_written, written_by}
 use Rattle.snap_core.specs.Regular.{IsRegular, IsViewOf, IsUpdateOf, IsBegunBeforeEnd}
 use Rattle.snap_core.proofs.Lists.{In, In-from_Contains, Contains-from_In, In-append_left, around}
 use Rattle.snap_core.proofs.Facts.{shown_in, shows_positive, shown_number_at, shown_number_none}
-use Rattle.snap_theory.specs.Windows.{nothing, IsRegularFrom, IsAtomicFrom}
+use Rattle.snap_core.specs.declared.writers.Writers.{Writers}
+use Rattle.snap_core.specs.declared.writers.Writers.TheVariants.{One, Many}
+use Rattle.snap_theory.specs.Versions.{IsLaterVersion}
+use Rattle.snap_theory.specs.Windows.{nothing, IsRegularFrom, IsLegalOrderFrom, IsAtomicFromBy}
 use Rattle.snap_theory.specs.Renumbered.{renumbered_entry, is_later, ShowsNoLess}
 use Rattle.snap_theory.proofs.Legal.{Stands}
-use Rattle.snap_theory.proofs.Images.{IsImage, Among, atomic_image, atomic_origin}
+use Rattle.snap_theory.proofs.Images.{IsImage, Among, Shows, atomic_image, atomic_origin, in_order_image, in_order_origin}
 use Rattle.snap_core.proofs.Members.{In-map, In-from_map}
 use Rattle.snap_theory.proofs.Renumbered.{call_by, operation_by, lowered, Rises, shown_by, number_by, by_view, by_precedes, update_by}
 
@@ -125,26 +128,52 @@ left_lowered left calls b k xs among = ap (λ z. last_written k z (map (call_by 
 
 -- atomic
 
-atomic_shows : (left : ℕ → Option Entry) (calls : List Call) → IsBeginning left calls → IsAtomicFrom left calls → ShowsNoLess left calls
-atomic_shows left calls b a r k v =
-    let i = In-from_Contains a.0 r (a.1.completed r v.there (b.answered r v)) in
-    let p = around r a.0 i in
-    let among : Among calls p.before = λ c j. In-from_Contains _ _ (All-contains (Stands calls) a.0 c a.1.only (Contains-from_In a.0 c (subst (In c) (sym p.same) (In-append_left c p.before (r ∷ p.after) j)))).0 in
-    fresh_shown left r k (subst (Fresh left k) (sym (a.1.latest p.before p.after r p.same v.completed k)) (last_fresh left calls b k (left k) p.before among (inl refl)))
+order_shows : (left : ℕ → Option Entry) (calls order : List Call) → IsBeginning left calls → IsLegalOrderFrom left calls order → ShowsNoLess left calls
+order_shows left calls order b a r k v =
+    let i = In-from_Contains order r (a.completed r v.there (b.answered r v)) in
+    let p = around r order i in
+    let among : Among calls p.before = λ c j. In-from_Contains _ _ (All-contains (Stands calls) order c a.only (Contains-from_In order c (subst (In c) (sym p.same) (In-append_left c p.before (r ∷ p.after) j)))).0 in
+    fresh_shown left r k (subst (Fresh left k) (sym (a.latest p.before p.after r p.same v.completed k)) (last_fresh left calls b k (left k) p.before among (inl refl)))
 
-pub atomic_renumbered : (left : ℕ → Option Entry) (calls : List Call) → IsBeginning left calls → IsImage (call_by left) calls → IsAtomicFrom left calls → ShowsNoLess left calls × IsAtomicFrom nothing (map (call_by left) calls)
-atomic_renumbered left calls b m a = (
-  atomic_shows left calls b a,
-  atomic_image (call_by left) calls left nothing m (λ before r among i v s k. shown_by left r k (b.rises r i) ∙ ap (lowered left) (s k) ∙ sym (left_lowered left calls b k before among)) a,
+-- a view shows the last update of the renumbered calls as of the others
+renumbered_shows : (left : ℕ → Option Entry) (calls : List Call) → IsBeginning left calls → (before : List Call) (r : Call) → Among calls before → In r calls → Shows left r before → Shows nothing (call_by left r) (map (call_by left) before)
+renumbered_shows left calls b before r among i s k = shown_by left r k (b.rises r i) ∙ ap (lowered left) (s k) ∙ sym (left_lowered left calls b k before among)
+
+shows_renumbered : (left : ℕ → Option Entry) (calls : List Call) → IsBeginning left calls → ShowsNoLess left calls → (before : List Call) (r : Call) → Among calls before → In r calls → is_view r ≡ true → Shows nothing (call_by left r) (map (call_by left) before) → Shows left r before
+shows_renumbered left calls b no_less before r among i v s k =
+    lowered_one left calls b k (shown r k) (last_written k (left k) before)
+    (shown_fresh left r k (no_less r k (record { there = Contains-from_In _ _ i; completed = v })))
+    (last_fresh left calls b k (left k) before among (inl refl))
+    (sym (shown_by left r k (b.rises r i)) ∙ s k ∙ left_lowered left calls b k before among)
+
+-- of two later updates of a component the same one has the greater number
+later_by : (left : ℕ → Option Entry) (calls : List Call) → IsBeginning left calls → (c d : Call) → In c calls → In d calls → IsLaterVersion c d → IsLaterVersion (call_by left c) (call_by left d)
+later_by left calls b c d i j less e f v w same =
+    let x = update_by left c e v in
+    let y = update_by left d f w in
+    let component : x.entry.component ≡ y.entry.component = ap (λ (z : Entry). z.component) x.is ∙ same ∙ sym (ap (λ (z : Entry). z.component) y.is) in
+    let nx : x.entry.number - number_in (left x.entry.component) ≡ e.number = ap (λ (z : Entry). z.number) x.is in
+    let ny : y.entry.number - number_in (left y.entry.component) ≡ f.number = ap (λ (z : Entry). z.number) y.is in
+    omega (arith, less x.entry y.entry x.writes y.writes component, b.later c x.entry i x.writes, b.later d y.entry j y.writes, nx, ny, ap (λ z. number_in (left z)) component)
+
+later_from : (left : ℕ → Option Entry) (c d : Call) → IsLaterVersion (call_by left c) (call_by left d) → IsLaterVersion c d
+later_from left c d less e f v w same =
+    let l : e.number - number_in (left e.component) < f.number - number_in (left f.component) = less (renumbered_entry left e) (renumbered_entry left f) (ap (operation_by left) v) (ap (operation_by left) w) same in
+    omega (arith, l, ap (λ z. number_in (left z)) same)
+
+pub atomic_renumbered : (writers : Writers) (left : ℕ → Option Entry) (calls : List Call) → IsBeginning left calls → IsImage (call_by left) calls → IsAtomicFromBy writers left calls → ShowsNoLess left calls × IsAtomicFromBy writers nothing (map (call_by left) calls)
+atomic_renumbered One left calls b m a = (
+  order_shows left calls a.0 b a.1,
+  atomic_image (call_by left) calls left nothing m (λ before r among i v. renumbered_shows left calls b before r among i) a,
+)
+atomic_renumbered Many left calls b m a = (
+  order_shows left calls a.0 b a.1.legal,
+  in_order_image (call_by left) calls left nothing m (λ before r among i v. renumbered_shows left calls b before r among i) (later_by left calls b) a,
 )
 
-pub atomic_from_renumbered : (left : ℕ → Option Entry) (calls : List Call) → IsBeginning left calls → IsImage (call_by left) calls → ShowsNoLess left calls × IsAtomicFrom nothing (map (call_by left) calls) → IsAtomicFrom left calls
-atomic_from_renumbered left calls b m a =
-    atomic_origin (call_by left) calls left nothing m (λ before r among i v s k.
-    lowered_one left calls b k (shown r k) (last_written k (left k) before)
-    (shown_fresh left r k (a.0 r k (record { there = Contains-from_In _ _ i; completed = v })))
-    (last_fresh left calls b k (left k) before among (inl refl))
-    (sym (shown_by left r k (b.rises r i)) ∙ s k ∙ left_lowered left calls b k before among)) a.1
+pub atomic_from_renumbered : (writers : Writers) (left : ℕ → Option Entry) (calls : List Call) → IsBeginning left calls → IsImage (call_by left) calls → ShowsNoLess left calls × IsAtomicFromBy writers nothing (map (call_by left) calls) → IsAtomicFromBy writers left calls
+atomic_from_renumbered One left calls b m a = atomic_origin (call_by left) calls left nothing m (shows_renumbered left calls b a.0) a.1
+atomic_from_renumbered Many left calls b m a = in_order_origin (call_by left) calls left nothing m (shows_renumbered left calls b a.0) (λ c d i j. later_from left c d) a.1
 
 -- views and updates
 

@@ -15,6 +15,13 @@ use Rattle.snap_core.proofs.Members.{In-map}
 use Rattle.snap_theory.specs.Windows.{IsQuiet, left_by}
 use Rattle.snap_theory.specs.Renumbered.{renumbered_entry, renumbered_event, renumbered}
 use Rattle.snap_theory.specs.WindowLaws.{GoesOn, HistoriesJoin}
+use Rattle.snap_core.proofs.Ordered.{history_is_ordered}
+use Rattle.snap_core.proofs.OrderedPushes.{is_ordered_by}
+use Rattle.snap_core.specs.Bounded.{IsHistoryBy}
+use Rattle.snap_core.specs.Ordered.{IsOrdered}
+use Rattle.snap_core.specs.declared.writers.Writers.{Writers}
+use Rattle.snap_core.specs.declared.writers.Writers.TheVariants.{One, Many}
+use Rattle.snap_theory.proofs.EndOrders.{both_in_order}
 use Rattle.snap_theory.proofs.Sides.{history_front, even_quiet, events_renumbered, left_counts, count_renumbered, sides_are_histories}
 
 -- turns of both sides
@@ -50,7 +57,7 @@ turns_before left (b ∷ e ∷ es) t = (ends_before left b e t.0, turns_before l
 pub well_formed_before : (left : ℕ → Option Entry) (es : List Event) → IsWellFormed (renumbered left es) → IsWellFormed es
 well_formed_before left es w p = turns_before left (events_of p es) (subst TakeTurns (events_renumbered left p es) (w p))
 
-well_formed : (before after : List Event) → IsQuiet before → IsHistory before → IsHistory (renumbered (left_by before) after) → IsWellFormed (before ++ after)
+well_formed : (before after : List Event) → IsQuiet before → IsOrdered before → IsOrdered (renumbered (left_by before) after) → IsWellFormed (before ++ after)
 well_formed before after quiet g h p =
     let even = even_quiet before quiet p (g.well_formed p) in
     let later = well_formed_before (left_by before) after h.well_formed p in
@@ -61,13 +68,13 @@ well_formed before after quiet g h p =
 renumbered_update : (left : ℕ → Option Entry) (after : List Event) (p : ℕ) (e : Entry) → In (BeginUpdate p e) after → Contains (renumbered left after) (BeginUpdate p (renumbered_entry left e))
 renumbered_update left after p e i = Contains-from_In _ _ (In-map (renumbered_event left) after (BeginUpdate p e) i)
 
-single_writer : (before after : List Event) → IsHistory before → IsHistory (renumbered (left_by before) after) → GoesOn before after → IsSingleWriter (before ++ after)
+single_writer : (before after : List Event) → IsHistory before → IsHistory (renumbered (left_by before) after) → GoesOn One before after → IsSingleWriter (before ++ after)
 single_writer before after g h on p q d e i j same = go (In-append_cases _ before after (In-from_Contains _ _ i)) (In-append_cases _ before after (In-from_Contains _ _ j))
   where
     go : In (BeginUpdate p d) before ⊎ In (BeginUpdate p d) after → In (BeginUpdate q e) before ⊎ In (BeginUpdate q e) after → p ≡ q
     go (inl a) (inl b) = g.single_writer p q d e (Contains-from_In _ _ a) (Contains-from_In _ _ b) same
-    go (inl a) (inr b) = on.writers p q d e (Contains-from_In _ _ a) (Contains-from_In _ _ b) same
-    go (inr a) (inl b) = sym (on.writers q p e d (Contains-from_In _ _ b) (Contains-from_In _ _ a) (sym same))
+    go (inl a) (inr b) = on.process refl p q d e (Contains-from_In _ _ a) (Contains-from_In _ _ b) same
+    go (inr a) (inl b) = sym (on.process refl q p e d (Contains-from_In _ _ b) (Contains-from_In _ _ a) (sym same))
     go (inr a) (inr b) = h.single_writer p q (renumbered_entry (left_by before) d) (renumbered_entry (left_by before) e) (renumbered_update (left_by before) after p d a) (renumbered_update (left_by before) after q e b) same
 
 -- on which side an event of both stands
@@ -90,8 +97,8 @@ side (y ∷ before) after (z ∷ front) x back s = go (side before after front x
 
 -- the numbers of both sides
 
-numbered : (before after : List Event) → IsHistory before → IsHistory (renumbered (left_by before) after) → GoesOn before after → IsNumbered (before ++ after)
-numbered before after g h on front back p e s = go (side before after front (BeginUpdate p e) back s)
+numbered : (writers : Writers) (before after : List Event) → IsOrdered before → IsOrdered (renumbered (left_by before) after) → GoesOn writers before after → IsNumbered (before ++ after)
+numbered writers before after g h on front back p e s = go (side before after front (BeginUpdate p e) back s)
   where
     left : ℕ → Option Entry
     left = left_by before
@@ -108,7 +115,7 @@ numbered before after g h on front back p e s = go (side before after front (Beg
           arith,
           h.numbered (renumbered left mid) (renumbered left back) p (renumbered_entry left e) moved,
           on.numbers p e there,
-          left_counts before g k,
+          left_counts before g.numbered k,
           count_renumbered left k mid,
           count-append k before mid,
           ap (count_by (begins_update_of k)) q,
@@ -116,28 +123,45 @@ numbered before after g h on front back p e s = go (side before after front (Beg
 
 -- later updates of a history go on
 
-goes_on : (before after : List Event) → IsHistory (before ++ after) → GoesOn before after
-goes_on before after h = record { numbers = numbers; writers = writers }
+goes_on : (writers : Writers) (before after : List Event) → IsHistoryBy writers (before ++ after) → GoesOn writers before after
+goes_on writers before after h = record { numbers = numbers; process = process writers h }
   where
+    ordered : IsOrdered (before ++ after)
+    ordered = is_ordered_by writers (before ++ after) h
+
     numbers : (p : ℕ) (e : Entry) → Contains after (BeginUpdate p e) → number_in (left_by before e.component) < e.number
     numbers p e i =
         let a = around (BeginUpdate p e) after (In-from_Contains _ _ i) in
         let split : before ++ after ≡ (before ++ a.before) ++ BeginUpdate p e ∷ a.after = ap (λ z. before ++ z) a.same ∙ sym (append_assoc before a.before (BeginUpdate p e ∷ a.after)) in
-        omega (arith, h.numbered (before ++ a.before) a.after p e split, count-append e.component before a.before, left_counts before (history_front before after h) e.component)
+        omega (arith, ordered.numbered (before ++ a.before) a.after p e split, count-append e.component before a.before, left_counts before (history_front Many before after ordered).numbered e.component)
 
-    writers : (p q : ℕ) (d e : Entry) → Contains before (BeginUpdate p d) → Contains after (BeginUpdate q e) → d.component ≡ e.component → p ≡ q
-    writers p q d e i j same =
+    process : (writers : Writers) → IsHistoryBy writers (before ++ after) → writers ≡ One → (p q : ℕ) (d e : Entry) → Contains before (BeginUpdate p d) → Contains after (BeginUpdate q e) → d.component ≡ e.component → p ≡ q
+    process One h one p q d e i j same =
         h.single_writer p q d e
         (Contains-from_In _ _ (In-append_left _ before after (In-from_Contains _ _ i)))
         (Contains-from_In _ _ (In-append_right _ before after (In-from_Contains _ _ j)))
         same
+    process Many h one p q d e i j same = absurd (cc one)
+
+join : (writers : Writers) (before after : List Event) → IsQuiet before → IsHistoryBy writers before → IsHistoryBy writers (renumbered (left_by before) after) → GoesOn writers before after → IsHistoryBy writers (before ++ after)
+join One before after quiet g h on =
+    let earlier = history_is_ordered before g in
+    let later = history_is_ordered (renumbered (left_by before) after) h in
+    record {
+      well_formed = well_formed before after quiet earlier later;
+      single_writer = single_writer before after g h on;
+      numbered = numbered One before after earlier later on;
+    }
+join Many before after quiet g h on =
+    let numbered = numbered Many before after g h on in
+    record {
+      well_formed = well_formed before after quiet g h;
+      numbered = numbered;
+      in_order = both_in_order before after quiet g.in_order h.in_order on.numbers numbered;
+    }
 
 pub histories_join : HistoriesJoin
-histories_join before after quiet = (
-  λ h. let s = sides_are_histories before after h quiet in (s.0, s.1, goes_on before after h),
-  λ s. record {
-    well_formed = well_formed before after quiet s.0 s.1;
-    single_writer = single_writer before after s.0 s.1 s.2;
-    numbered = numbered before after s.0 s.1 s.2;
-  },
+histories_join writers before after quiet = (
+  λ h. let s = sides_are_histories writers before after h quiet in (s.0, s.1, goes_on writers before after h),
+  λ s. join writers before after quiet s.0 s.1 s.2,
 )

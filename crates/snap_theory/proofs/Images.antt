@@ -6,9 +6,10 @@ use Rattle.std.proofs.lemmas.List.Elements.{All-contains}
 use Rattle.snap_core.specs.declared.entry.Entry.{Entry}
 use Rattle.snap_core.specs.Calls.{Call, precedes, is_view, shown}
 use Rattle.snap_core.specs.Orders.{is_completed, is_update, last_written}
-use Rattle.snap_core.proofs.Lists.{In, In-from_Contains, Contains-from_In, In-append_left, In-append_right, Pairs-weaker, Pairs-from_AllPairs, AllPairs-from_Pairs}
+use Rattle.snap_core.proofs.Lists.{In, In-from_Contains, Contains-from_In, In-append_left, In-append_right, Pairs, Pairs-weaker, Pairs-from_AllPairs, AllPairs-from_Pairs}
 use Rattle.snap_core.proofs.Members.{In-map, Origin, In-from_map, Pairs-map, Pairs-from_map}
-use Rattle.snap_theory.specs.Windows.{IsLegalOrderFrom, IsAtomicFrom}
+use Rattle.snap_theory.specs.Versions.{IsLaterVersion}
+use Rattle.snap_theory.specs.Windows.{IsLegalOrderFrom, IsAtomicFrom, IsAtomicInOrderFrom}
 use Rattle.snap_theory.proofs.Legal.{Kept, Stands}
 use Rattle.snap_theory.proofs.Orders.{All-from_In}
 
@@ -132,3 +133,31 @@ atomic_origin f calls left other m shows a =
     let among : (c : Call) → In c a.0 → In c (map f calls) = λ c i. In-from_Contains _ _ (All-contains (Stands (map f calls)) a.0 c a.1.only (Contains-from_In a.0 c i)).0 in
     let x = origins f calls a.0 among in
     (x.list, legal_origin f calls left other m shows x.list x.there (subst (IsLegalOrderFrom other (map f calls)) (sym x.is) a.1))
+
+-- the same of orders in which the numbers of each component rise
+
+pub in_order_image : (f : Call → Call) (calls : List Call) (left other : ℕ → Option Entry) → IsImage f calls → ((before : List Call) (r : Call) → Among calls before → In r calls → is_view r ≡ true → Shows left r before → Shows other (f r) (map f before)) →
+    ((a b : Call) → In a calls → In b calls → IsLaterVersion a b → IsLaterVersion (f a) (f b)) → IsAtomicInOrderFrom left calls → IsAtomicInOrderFrom other (map f calls)
+in_order_image f calls left other m shows later a = (
+  map f a.0,
+  record {
+    legal = legal_image f calls left other m shows a.0 a.1.legal;
+    rising = AllPairs-from_Pairs IsLaterVersion (map f a.0) (Pairs-map IsLaterVersion f a.0 (Pairs-weaker IsLaterVersion (λ b c. IsLaterVersion (f b) (f c)) a.0 (λ b c i j h. later b c (among b i) (among c j) h) (Pairs-from_AllPairs IsLaterVersion a.0 a.1.rising)));
+  },
+)
+  where
+    among : Among calls a.0
+    among c i = In-from_Contains _ _ (All-contains (Stands calls) a.0 c a.1.legal.only (Contains-from_In a.0 c i)).0
+
+pub in_order_origin : (f : Call → Call) (calls : List Call) (left other : ℕ → Option Entry) → IsImage f calls → ((before : List Call) (r : Call) → Among calls before → In r calls → is_view r ≡ true → Shows other (f r) (map f before) → Shows left r before) →
+    ((a b : Call) → In a calls → In b calls → IsLaterVersion (f a) (f b) → IsLaterVersion a b) → IsAtomicInOrderFrom other (map f calls) → IsAtomicInOrderFrom left calls
+in_order_origin f calls left other m shows later a = (
+  x.list,
+  record {
+    legal = legal_origin f calls left other m shows x.list x.there (subst (IsLegalOrderFrom other (map f calls)) (sym x.is) a.1.legal);
+    rising = AllPairs-from_Pairs IsLaterVersion x.list (Pairs-weaker (λ b c. IsLaterVersion (f b) (f c)) IsLaterVersion x.list (λ b c i j h. later b c (x.there b i) (x.there c j) h) (Pairs-from_map IsLaterVersion f x.list (subst (Pairs IsLaterVersion) (sym x.is) (Pairs-from_AllPairs IsLaterVersion a.0 a.1.rising))));
+  },
+)
+  where
+    x : Origins f calls a.0
+    x = origins f calls a.0 (λ c i. In-from_Contains _ _ (All-contains (Stands (map f calls)) a.0 c a.1.legal.only (Contains-from_In a.0 c i)).0)

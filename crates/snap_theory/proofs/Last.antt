@@ -8,6 +8,7 @@ use Rattle.snap_core.specs.Calls.{Call, Operation, Updates, Views, precedes}
 use Rattle.snap_core.specs.Orders.{last_written, written_by}
 use Rattle.snap_core.proofs.Lists.{In, Pairs}
 use Rattle.snap_core.proofs.Facts.{AreCalls}
+use Rattle.snap_core.proofs.Ordered.{AreOrderedCalls}
 use Rattle.snap_theory.specs.Versions.{IsLaterVersion}
 use Rattle.snap_theory.proofs.LastWritten.{last_written-append}
 
@@ -72,7 +73,7 @@ later calls f a b i j free other d e v w same = elim (cases_order d.number e.num
 ]
 
 -- two lists of the same updates leave the same
-pub same_last : (calls : List Call) → AreCalls calls → (k : ℕ) (xs ys : List Call) → Pairs IsLaterVersion xs → Pairs IsLaterVersion ys → ((c : Call) → In c xs → Contains calls c) → ((c : Call) (e : Entry) → c.operation ≡ Updates e → In c xs → In c ys) → ((c : Call) (e : Entry) → c.operation ≡ Updates e → In c ys → In c xs) → last_written k None xs ≡ last_written k None ys
+pub same_last : (calls : List Call) → AreOrderedCalls calls → (k : ℕ) (xs ys : List Call) → Pairs IsLaterVersion xs → Pairs IsLaterVersion ys → ((c : Call) → In c xs → Contains calls c) → ((c : Call) (e : Entry) → c.operation ≡ Updates e → In c xs → In c ys) → ((c : Call) (e : Entry) → c.operation ≡ Updates e → In c ys → In c xs) → last_written k None xs ≡ last_written k None ys
 same_last calls f k xs ys p q there to from = go (last_of k None xs p) (last_of k None ys q)
   where
     go : NoneOf k xs None (last_written k None xs) ⊎ LastOf k xs (last_written k None xs) → NoneOf k ys None (last_written k None ys) ⊎ LastOf k ys (last_written k None ys) → last_written k None xs ≡ last_written k None ys

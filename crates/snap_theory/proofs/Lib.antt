@@ -9,6 +9,7 @@ pub mod Renumbered
 pub mod Fresh
 pub mod Joined
 pub mod Windows
+pub mod EndOrders
 pub mod Sides
 pub mod GoingOn
 mod WorkedWindows

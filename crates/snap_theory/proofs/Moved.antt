@@ -13,8 +13,10 @@ use Rattle.snap_core.specs.Orders.{is_completed, is_update, last_written, writte
 use Rattle.snap_core.specs.Regular.{IsViewOf, IsUpdateOf, IsBegunBeforeEnd}
 use Rattle.snap_core.proofs.Lists.{In, In-from_Contains, Contains-from_In, Pairs}
 use Rattle.snap_core.proofs.Begun.{numbers_rise}
-use Rattle.snap_theory.specs.Windows.{IsRegularFrom, IsAtomicFrom}
-use Rattle.snap_theory.proofs.Images.{IsImage, atomic_image, atomic_origin}
+use Rattle.snap_core.specs.declared.writers.Writers.{Writers}
+use Rattle.snap_core.specs.declared.writers.Writers.TheVariants.{One, Many}
+use Rattle.snap_theory.specs.Windows.{IsRegularFrom, IsAtomicFromBy}
+use Rattle.snap_theory.proofs.Images.{IsImage, Shows, atomic_image, atomic_origin, in_order_image, in_order_origin}
 use Rattle.snap_core.proofs.Members.{In-map, In-from_map}
 
 abbrev pub shifted : ℕ → Option ℕ → Option ℕ
@@ -93,13 +95,13 @@ less_moved m a b = elim (cases_lt a b) [
   | inr g ↦ false_from_ne_true _ (λ h. omega (arith, ltb-true (m + a) (m + b) h)) ∙ sym (false_from_ne_true (nat_lt a b) (λ h. omega (arith, ltb-true a b h)))
 ]
 
+pub before_moved : (m place : ℕ) (o : Option ℕ) → is_before (shifted m o) (m + place) ≡ is_before o place
+before_moved m place None = refl
+before_moved m place (Some e) = less_moved m e place
+
 moved_precedes : (n m : ℕ) (a b : Call) → precedes (moved n m a) (moved n m b) ≡ precedes a b
 unfolding precedes
-moved_precedes n m a b = go a.ended
-  where
-    go : (o : Option ℕ) → is_before (shifted m o) (m + b.begun) ≡ is_before o b.begun
-    go None = refl
-    go (Some e) = less_moved m e b.begun
+moved_precedes n m a b = before_moved m b.begun a.ended
 
 -- calls are known by their numbers
 pub one_number : (calls : List Call) → Pairs (λ a b. a.number < b.number) calls → (a b : Call) → In a calls → In b calls → a.number ≡ b.number → a ≡ b
@@ -126,18 +128,27 @@ last_moved : (n m k : ℕ) (o : Option Entry) (xs : List Call) → last_written 
 last_moved n m k o [] = refl
 last_moved n m k o (x ∷ xs) = last_moved n m k (written_by x.operation k o) xs
 
-pub atomic_moved : (n m : ℕ) (es : List Event) (left : ℕ → Option Entry) → IsAtomicFrom left (calls_of es) → IsAtomicFrom left (map (moved n m) (calls_of es))
-atomic_moved n m es left = atomic_image (moved n m) (calls_of es) left left (moved_image n m es) (λ before r among i v s k. moved_shown n m r k ∙ s k ∙ sym (last_moved n m k (left k) before))
+-- a view shows the last update after the move as before it
+moved_shows : (n m : ℕ) (left : ℕ → Option Entry) (before : List Call) (r : Call) → Shows left r before → Shows left (moved n m r) (map (moved n m) before)
+moved_shows n m left before r s k = moved_shown n m r k ∙ s k ∙ sym (last_moved n m k (left k) before)
 
-pub atomic_unmoved : (n m : ℕ) (es : List Event) (left : ℕ → Option Entry) → IsAtomicFrom left (map (moved n m) (calls_of es)) → IsAtomicFrom left (calls_of es)
-atomic_unmoved n m es left = atomic_origin (moved n m) (calls_of es) left left (moved_image n m es) (λ before r among i v s k. sym (moved_shown n m r k) ∙ s k ∙ last_moved n m k (left k) before)
+unmoved_shows : (n m : ℕ) (left : ℕ → Option Entry) (before : List Call) (r : Call) → Shows left (moved n m r) (map (moved n m) before) → Shows left r before
+unmoved_shows n m left before r s k = sym (moved_shown n m r k) ∙ s k ∙ last_moved n m k (left k) before
+
+pub atomic_moved : (writers : Writers) (n m : ℕ) (es : List Event) (left : ℕ → Option Entry) → IsAtomicFromBy writers left (calls_of es) → IsAtomicFromBy writers left (map (moved n m) (calls_of es))
+atomic_moved One n m es left = atomic_image (moved n m) (calls_of es) left left (moved_image n m es) (λ before r among i v. moved_shows n m left before r)
+atomic_moved Many n m es left = in_order_image (moved n m) (calls_of es) left left (moved_image n m es) (λ before r among i v. moved_shows n m left before r) (λ a b i j h. h)
+
+pub atomic_unmoved : (writers : Writers) (n m : ℕ) (es : List Event) (left : ℕ → Option Entry) → IsAtomicFromBy writers left (map (moved n m) (calls_of es)) → IsAtomicFromBy writers left (calls_of es)
+atomic_unmoved One n m es left = atomic_origin (moved n m) (calls_of es) left left (moved_image n m es) (λ before r among i v. unmoved_shows n m left before r)
+atomic_unmoved Many n m es left = in_order_origin (moved n m) (calls_of es) left left (moved_image n m es) (λ before r among i v. unmoved_shows n m left before r) (λ a b i j h. h)
 
 -- views and updates, moved and back
 
 view_moved : (n m : ℕ) (calls : List Call) (r : Call) → IsViewOf calls r → IsViewOf (map (moved n m) calls) (moved n m r)
 view_moved n m calls r v = record { there = Contains-from_In _ _ (In-map (moved n m) calls r (In-from_Contains _ _ v.there)); completed = moved_view n m r ∙ v.completed }
 
-update_moved : (n m : ℕ) (calls : List Call) (c : Call) (e : Entry) → IsUpdateOf calls c e → IsUpdateOf (map (moved n m) calls) (moved n m c) e
+pub update_moved : (n m : ℕ) (calls : List Call) (c : Call) (e : Entry) → IsUpdateOf calls c e → IsUpdateOf (map (moved n m) calls) (moved n m c) e
 update_moved n m calls c e u = record { there = Contains-from_In _ _ (In-map (moved n m) calls c (In-from_Contains _ _ u.there)); writes = u.writes }
 
 record ViewOrigin (n m : ℕ) (calls : List Call) (r : Call) : Type 0 where

@@ -1,18 +1,19 @@
 -- Legal orders of calls that fall into a front and a back.
-use Rattle.std.proofs.Common.{◌≡◌, ◌≢◌, ◌⊎◌, ℕ, true, false, List, [], ◌∷◌, ◌++◌, append_assoc, append-nil, None, refl, sym, ap, ◌∙◌, subst, inl, inr}
+use Rattle.std.proofs.Common.{◌≡◌, ◌≢◌, ◌⊎◌, ℕ, true, false, List, [], ◌∷◌, ◌++◌, append_assoc, append-nil, None, refl, sym, ap, ◌∙◌, subst, inl, inr, arith}
 use Rattle.std.specs.List.{Contains, All}
 use Rattle.std.proofs.lemmas.Bool.{false≢true}
 use Rattle.std.proofs.lemmas.List.Elements.{All-contains}
+use Rattle.snap_core.specs.Entries.{number_in}
 use Rattle.snap_core.specs.Calls.{Call, precedes, is_view, shown}
 use Rattle.snap_core.specs.Orders.{IsLegalOrder, IsAtomic, is_completed, last_written}
 use Rattle.snap_core.proofs.Lists.{In, In-from_Contains, Contains-from_In, In-append_left, In-append_right, In-append_cases, Pairs, Pairs-left, Pairs-right, Pairs-append, Pairs-weaker, Pairs-from_AllPairs, AllPairs-from_Pairs, In-get_or}
 use Rattle.snap_core.proofs.Facts.{AreCalls}
 use Rattle.snap_core.proofs.Begun.{Compared, alike, first, second, compare_splits}
-use Rattle.snap_theory.specs.Windows.{IsLegalOrderFrom, IsAtomicFrom}
+use Rattle.snap_theory.specs.Windows.{IsLegalOrderFrom, IsLegalInOrderFrom, IsAtomicFrom, IsAtomicInOrderFrom}
 use Rattle.snap_theory.proofs.Legal.{Kept, Stands}
-use Rattle.snap_theory.specs.Versions.{IsLaterVersion, IsLegalInOrder}
+use Rattle.snap_theory.specs.Versions.{IsLaterVersion, IsLegalInOrder, IsAtomicInOrder}
 use Rattle.snap_theory.proofs.Last.{later, same_last, last_behind}
-use Rattle.snap_theory.proofs.Cuts.{IsCut, left_of, in_front, in_back, not_itself, not_back, front_rises}
+use Rattle.snap_theory.proofs.Cuts.{IsCut, left_of, in_front, in_back, not_itself, not_back, front_rises, front_most, back_more}
 
 pub All-from_In : {X : Type 0} (P : X → Type 0) (xs : List X) → ((x : X) → In x xs → P x) → All P xs
 All-from_In P xs h k d l = h _ (In-get_or xs k d l)
@@ -62,32 +63,41 @@ part front back x (a ∷ order) there p = go (there a (inl refl)) (part front ba
 
 -- from a legal order of the whole
 
-atomic_sides_of : (front back order : List Call) → IsCut front back → IsLegalOrder (front ++ back) order → IsAtomic front × IsAtomicFrom (left_of front) back
-atomic_sides_of front back order x o = (
+sides_of : (front back order : List Call) → IsCut front back → IsLegalInOrder (front ++ back) order → IsAtomicInOrder front × IsAtomicInOrderFrom (left_of front) back
+sides_of front back order x r = (
   (
     z.fore,
     record {
-      only = All-from_In (Stands front) z.fore (λ c i. (z.in_fore c i, (stands c (fore_in c i)).1));
-      distinct = AllPairs-from_Pairs (λ a b. a ≢ b) z.fore (Pairs-left (λ a b. a ≢ b) z.fore z.rear apart);
-      completed = fore_completed;
-      precedence = AllPairs-from_Pairs (λ a b. precedes b a ≡ false) z.fore (Pairs-left Kept z.fore z.rear kept);
-      latest = λ before after r s v k. o.latest before (after ++ z.rear) r (z.split ∙ ap (λ w. w ++ z.rear) s ∙ append_assoc before (r ∷ after) z.rear) v k;
+      legal = record {
+        only = All-from_In (Stands front) z.fore (λ c i. (z.in_fore c i, (stands c (fore_in c i)).1));
+        distinct = AllPairs-from_Pairs (λ a b. a ≢ b) z.fore (Pairs-left (λ a b. a ≢ b) z.fore z.rear apart);
+        completed = fore_completed;
+        precedence = AllPairs-from_Pairs (λ a b. precedes b a ≡ false) z.fore (Pairs-left Kept z.fore z.rear kept);
+        latest = λ before after q s v k. o.latest before (after ++ z.rear) q (z.split ∙ ap (λ w. w ++ z.rear) s ∙ append_assoc before (q ∷ after) z.rear) v k;
+      };
+      rising = AllPairs-from_Pairs IsLaterVersion z.fore (Pairs-left IsLaterVersion z.fore z.rear rises);
     },
   ),
   (
     z.rear,
     record {
-      only = All-from_In (Stands back) z.rear (λ c i. (z.in_rear c i, (stands c (rear_in c i)).1));
-      distinct = AllPairs-from_Pairs (λ a b. a ≢ b) z.rear (Pairs-right (λ a b. a ≢ b) z.fore z.rear apart);
-      completed = rear_completed;
-      precedence = AllPairs-from_Pairs (λ a b. precedes b a ≡ false) z.rear (Pairs-right Kept z.fore z.rear kept);
-      latest = λ before after r s v k.
-          o.latest (z.fore ++ before) after r (z.split ∙ ap (λ w. z.fore ++ w) s ∙ sym (append_assoc z.fore before (r ∷ after))) v k
-          ∙ last_behind k None (left_of front k) z.fore before (fore_left k);
+      legal = record {
+        only = All-from_In (Stands back) z.rear (λ c i. (z.in_rear c i, (stands c (rear_in c i)).1));
+        distinct = AllPairs-from_Pairs (λ a b. a ≢ b) z.rear (Pairs-right (λ a b. a ≢ b) z.fore z.rear apart);
+        completed = rear_completed;
+        precedence = AllPairs-from_Pairs (λ a b. precedes b a ≡ false) z.rear (Pairs-right Kept z.fore z.rear kept);
+        latest = λ before after q s v k.
+            o.latest (z.fore ++ before) after q (z.split ∙ ap (λ w. z.fore ++ w) s ∙ sym (append_assoc z.fore before (q ∷ after))) v k
+            ∙ last_behind k None (left_of front k) z.fore before (fore_left k);
+      };
+      rising = AllPairs-from_Pairs IsLaterVersion z.rear (Pairs-right IsLaterVersion z.fore z.rear rises);
     },
   ),
 )
   where
+    o : IsLegalOrder (front ++ back) order
+    o = r.legal
+
     stands : (c : Call) → In c order → Stands (front ++ back) c
     stands c i = All-contains (Stands (front ++ back)) order c o.only (Contains-from_In order c i)
 
@@ -99,6 +109,9 @@ atomic_sides_of front back order x o = (
 
     apart : Pairs (λ a b. a ≢ b) (z.fore ++ z.rear)
     apart = subst (Pairs (λ a b. a ≢ b)) z.split (Pairs-from_AllPairs (λ a b. a ≢ b) order o.distinct)
+
+    rises : Pairs IsLaterVersion (z.fore ++ z.rear)
+    rises = subst (Pairs IsLaterVersion) z.split (Pairs-from_AllPairs IsLaterVersion order r.rising)
 
     fore_in : (c : Call) → In c z.fore → In c order
     fore_in c i = subst (In c) (sym z.split) (In-append_left c z.fore z.rear i)
@@ -129,7 +142,7 @@ atomic_sides_of front back order x o = (
     fore_left : (k : ℕ) → last_written k None z.fore ≡ left_of front k
     fore_left k =
         same_last (front ++ back) x.calls k z.fore front
-        (order_rises (front ++ back) z.fore x.calls (λ c i. in_front front back c (z.in_fore c i)) (Pairs-left Kept z.fore z.rear kept) (Pairs-left (λ a b. a ≢ b) z.fore z.rear apart))
+        (Pairs-left IsLaterVersion z.fore z.rear rises)
         (front_rises front back x)
         (λ c i. in_front front back c (z.in_fore c i))
         (λ c e w i. In-from_Contains _ _ (z.in_fore c i))
@@ -137,8 +150,8 @@ atomic_sides_of front back order x o = (
 
 -- from legal orders of both sides
 
-legal_whole : (front back fore rear : List Call) → IsCut front back → IsLegalOrder front fore → IsLegalOrderFrom (left_of front) back rear → IsLegalOrder (front ++ back) (fore ++ rear)
-legal_whole front back fore rear x o q = record {
+legal_whole : (front back fore rear : List Call) → IsCut front back → Pairs IsLaterVersion fore → IsLegalOrder front fore → IsLegalOrderFrom (left_of front) back rear → IsLegalOrder (front ++ back) (fore ++ rear)
+legal_whole front back fore rear x rises o q = record {
   only = All-from_In (Stands (front ++ back)) (fore ++ rear) only;
   distinct = AllPairs-from_Pairs (λ a b. a ≢ b) (fore ++ rear) (Pairs-append (λ a b. a ≢ b) fore rear (Pairs-from_AllPairs (λ a b. a ≢ b) fore o.distinct) (Pairs-from_AllPairs (λ a b. a ≢ b) rear q.distinct) apart);
   completed = completed;
@@ -172,7 +185,7 @@ legal_whole front back fore rear x o q = record {
     fore_left : (k : ℕ) → last_written k None fore ≡ left_of front k
     fore_left k =
         same_last (front ++ back) x.calls k fore front
-        (order_rises (front ++ back) fore x.calls (λ c i. in_front front back c (in_fore c i)) (Pairs-from_AllPairs Kept fore o.precedence) (Pairs-from_AllPairs (λ a b. a ≢ b) fore o.distinct))
+        rises
         (front_rises front back x)
         (λ c i. in_front front back c (in_fore c i))
         (λ c e w i. In-from_Contains _ _ (in_fore c i))
@@ -193,8 +206,42 @@ legal_whole front back fore rear x o q = record {
             at (first mid i j) = behind (a ∷ mid) after r (e ∙ ap (λ z. a ∷ z) j) v k ∙ ap (last_written k None) (sym i)
             at (second mid i j) = o.latest before mid r i v k
 
-pub atomic_sides : (front back : List Call) → IsCut front back → IsAtomic (front ++ back) → IsAtomic front × IsAtomicFrom (left_of front) back
-atomic_sides front back x a = atomic_sides_of front back a.0 x a.1
+pub in_order_sides : (front back : List Call) → IsCut front back → IsAtomicInOrder (front ++ back) → IsAtomicInOrder front × IsAtomicInOrderFrom (left_of front) back
+in_order_sides front back x a = sides_of front back a.0 x a.1
 
-pub atomic_whole : (front back : List Call) → IsCut front back → IsAtomic front × IsAtomicFrom (left_of front) back → IsAtomic (front ++ back)
-atomic_whole front back x a = (a.0.0 ++ a.1.0, legal_whole front back a.0.0 a.1.0 x a.0.1 a.1.1)
+pub in_order_whole : (front back : List Call) → IsCut front back → IsAtomicInOrder front × IsAtomicInOrderFrom (left_of front) back → IsAtomicInOrder (front ++ back)
+in_order_whole front back x a = (
+  a.0.0 ++ a.1.0,
+  record {
+    legal = legal_whole front back a.0.0 a.1.0 x fore a.0.1.legal a.1.1.legal;
+    rising = AllPairs-from_Pairs IsLaterVersion (a.0.0 ++ a.1.0) (Pairs-append IsLaterVersion a.0.0 a.1.0 fore (Pairs-from_AllPairs IsLaterVersion a.1.0 a.1.1.rising) across);
+  },
+)
+  where
+    fore : Pairs IsLaterVersion a.0.0
+    fore = Pairs-from_AllPairs IsLaterVersion a.0.0 a.0.1.rising
+
+    -- an update of the back has a greater number than what the front left
+    across : (c d : Call) → In c a.0.0 → In d a.1.0 → IsLaterVersion c d
+    across c d i j e f v w same =
+        let ic = (All-contains (Stands front) a.0.0 c a.0.1.legal.only (Contains-from_In a.0.0 c i)).0 in
+        let id = (All-contains (Stands back) a.1.0 d a.1.1.legal.only (Contains-from_In a.1.0 d j)).0 in
+        let most = front_most front back x c e (record { there = ic; writes = v }) in
+        let more = back_more front back x d f (record { there = id; writes = w }) in
+        omega (arith, most, more, ap (λ z. number_in (left_of front z)) same)
+
+-- where updates of one component follow one another, so without the numbers
+
+pub atomic_sides : (front back : List Call) → AreCalls (front ++ back) → IsCut front back → IsAtomic (front ++ back) → IsAtomic front × IsAtomicFrom (left_of front) back
+atomic_sides front back f x a =
+    let s = sides_of front back a.0 x (legal_in_order (front ++ back) a.0 f a.1) in
+    ((s.0.0, s.0.1.legal), (s.1.0, s.1.1.legal))
+
+pub atomic_whole : (front back : List Call) → AreCalls (front ++ back) → IsCut front back → IsAtomic front × IsAtomicFrom (left_of front) back → IsAtomic (front ++ back)
+atomic_whole front back f x a = (a.0.0 ++ a.1.0, legal_whole front back a.0.0 a.1.0 x rises a.0.1 a.1.1)
+  where
+    there : (c : Call) → In c a.0.0 → Contains (front ++ back) c
+    there c i = in_front front back c (All-contains (Stands front) a.0.0 c a.0.1.only (Contains-from_In a.0.0 c i)).0
+
+    rises : Pairs IsLaterVersion a.0.0
+    rises = order_rises (front ++ back) a.0.0 f there (Pairs-from_AllPairs Kept a.0.0 a.0.1.precedence) (Pairs-from_AllPairs (λ a b. a ≢ b) a.0.0 a.0.1.distinct)

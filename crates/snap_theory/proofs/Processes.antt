@@ -9,6 +9,7 @@ use Rattle.snap_core.proofs.Lists.{In, In-from_Contains, Contains-from_In}
 use Rattle.snap_core.proofs.Members.{In-map, Origin, In-from_map}
 use Rattle.snap_theory.specs.Faults.{integrity_faults, proximity_faults, read_faults, write_faults, stale_count}
 use Rattle.snap_theory.specs.Levels.{printed_order}
+use Rattle.snap_core.specs.declared.writers.Writers.TheVariants.{One}
 use Rattle.snap_theory.specs.Windows.{nothing, IsAtomicFrom}
 use Rattle.snap_theory.specs.Processes.{anyones, AreSameCalls, HaveSameFaults, ProcessesDoNotMatter}
 use Rattle.snap_theory.proofs.Empty.{atomic_from_nothing}
@@ -93,7 +94,7 @@ recall es = atomic_origin anyones (calls_of es) nothing nothing (image es) (λ b
 
 atomic_alike : (events others : List Event) → AreSameCalls (calls_of events) (calls_of others) → IsAtomic (calls_of events) → IsAtomic (calls_of others)
 atomic_alike events others same a =
-    (atomic_from_nothing (calls_of others)).0 (recall others (subst (IsAtomicFrom nothing) same (forget events ((atomic_from_nothing (calls_of events)).1 a))))
+    (atomic_from_nothing One (calls_of others)).0 (recall others (subst (IsAtomicFrom nothing) same (forget events ((atomic_from_nothing One (calls_of events)).1 a))))
 
 faults_alike : (calls others : List Call) → AreSameCalls calls others → HaveSameFaults calls others
 faults_alike calls others same = record {

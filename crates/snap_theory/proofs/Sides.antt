@@ -13,7 +13,12 @@ use Rattle.snap_core.specs.Calls.{Call, next_place, calls_from, calls_of}
 use Rattle.snap_core.specs.Orders.{is_completed, last_written}
 use Rattle.snap_core.proofs.Lists.{In, In-from_Contains, Contains-from_In, In-append_right, count-cons}
 use Rattle.snap_core.proofs.Begun.{call_at, count-append}
-use Rattle.snap_core.proofs.Pushes.{history_back}
+use Rattle.snap_core.proofs.OrderedPushes.{history_by_back, is_ordered_by}
+use Rattle.snap_core.specs.Bounded.{IsHistoryBy}
+use Rattle.snap_core.specs.Ordered.{IsOrdered}
+use Rattle.snap_core.specs.declared.writers.Writers.{Writers}
+use Rattle.snap_core.specs.declared.writers.Writers.TheVariants.{One, Many}
+use Rattle.snap_theory.proofs.EndOrders.{later_in_order}
 use Rattle.snap_theory.specs.Windows.{IsQuiet, left_by}
 use Rattle.snap_theory.specs.Renumbered.{renumbered_entry, renumbered_event, renumbered}
 use Rattle.snap_theory.specs.WindowLaws.{SidesAreHistories}
@@ -24,9 +29,9 @@ use Rattle.snap_theory.proofs.Renumbered.{process_same}
 
 -- the earlier side
 
-pub history_front : (before after : List Event) → IsHistory (before ++ after) → IsHistory before
-history_front before [] h = subst IsHistory (append-nil before) h
-history_front before (x ∷ after) h = (history_back before x (history_front (before ++ x ∷ []) after (subst IsHistory (sym (append_assoc before (x ∷ []) after)) h))).0
+pub history_front : (writers : Writers) (before after : List Event) → IsHistoryBy writers (before ++ after) → IsHistoryBy writers before
+history_front writers before [] h = subst (IsHistoryBy writers) (append-nil before) h
+history_front writers before (x ∷ after) h = (history_by_back writers before x (history_front writers (before ++ x ∷ []) after (subst (IsHistoryBy writers) (sym (append_assoc before (x ∷ []) after)) h))).0
 
 -- no call is open: the events of each process are even
 
@@ -107,10 +112,10 @@ events_renumbered left p (x ∷ es) =
     go true r = ap (λ z. renumbered_event left x ∷ z) r
     go false r = r
 
-well_formed : (before after : List Event) → IsHistory (before ++ after) → IsQuiet before → IsWellFormed (renumbered (left_by before) after)
+well_formed : (before after : List Event) → IsOrdered (before ++ after) → IsQuiet before → IsWellFormed (renumbered (left_by before) after)
 well_formed before after h quiet p =
     let both : TakeTurns (events_of p before ++ events_of p after) = subst TakeTurns (filter-append (λ e. process_of e == p) before after) (h.well_formed p) in
-    let even = even_quiet before quiet p ((history_front before after h).well_formed p) in
+    let even = even_quiet before quiet p ((history_front Many before after h).well_formed p) in
     subst TakeTurns (sym (events_renumbered (left_by before) p after)) (turns_renumbered (left_by before) (events_of p after) (turns_behind (events_of p before) (events_of p after) both even))
 
 -- the update that an event was
@@ -175,9 +180,9 @@ last_counts k n place (BeginView p ∷ es) m o s h = omega (arith, last_counts k
 last_counts k n place (EndUpdate p ∷ es) m o s h = omega (arith, last_counts k n (suc place) es m o s (counts_rest k m m (EndUpdate p) es (omega arith) h), count-cons (begins_update_of k) (EndUpdate p) es)
 last_counts k n place (EndView p d ∷ es) m o s h = omega (arith, last_counts k n (suc place) es m o s (counts_rest k m m (EndView p d) es (omega arith) h), count-cons (begins_update_of k) (EndView p d) es)
 
-pub left_counts : (before : List Event) → IsHistory before → (k : ℕ) → number_in (left_by before k) ≡ count_by (begins_update_of k) before
+pub left_counts : (before : List Event) → IsNumbered before → (k : ℕ) → number_in (left_by before k) ≡ count_by (begins_update_of k) before
 unfolding calls_of
-left_counts before h k = omega (arith, last_counts k 0 0 before 0 None refl (λ b a p e s c. omega (arith, h.numbered b a p e s, ap (λ z. count_by (begins_update_of z) b) c)))
+left_counts before h k = omega (arith, last_counts k 0 0 before 0 None refl (λ b a p e s c. omega (arith, h b a p e s, ap (λ z. count_by (begins_update_of z) b) c)))
 
 begins_renumbered : (left : ℕ → Option Entry) (k : ℕ) (x : Event) → begins_update_of k (renumbered_event left x) ≡ begins_update_of k x
 begins_renumbered left k (BeginUpdate p e) = refl
@@ -189,7 +194,7 @@ pub count_renumbered : (left : ℕ → Option Entry) (k : ℕ) (es : List Event)
 count_renumbered left k [] = refl
 count_renumbered left k (x ∷ es) = omega (arith, count-cons (begins_update_of k) (renumbered_event left x) (renumbered left es), count-cons (begins_update_of k) x es, ap {B = ℕ} (λ b. cond b 1 0) (begins_renumbered left k x), count_renumbered left k es)
 
-numbered : (before after : List Event) → IsHistory (before ++ after) → IsNumbered (renumbered (left_by before) after)
+numbered : (before after : List Event) → IsOrdered (before ++ after) → IsNumbered (renumbered (left_by before) after)
 numbered before after h b a p e s =
     let left = left_by before in
     let o = split_origin (renumbered_event left) after b a (BeginUpdate p e) s in
@@ -202,7 +207,7 @@ numbered before after h b a p e s =
       arith,
       h.numbered (before ++ o.front) o.back p u.entry split,
       count-append k before o.front,
-      left_counts before (history_front before after h) k,
+      left_counts before (history_front Many before after h).numbered k,
       number,
       count_renumbered left k o.front,
       ap (count_by (begins_update_of k)) o.is_front,
@@ -210,11 +215,19 @@ numbered before after h b a p e s =
     )
 
 pub sides_are_histories : SidesAreHistories
-sides_are_histories before after h quiet = (
-  history_front before after h,
-  record {
-    well_formed = well_formed before after h quiet;
-    single_writer = single_writer before after h;
-    numbered = numbered before after h;
-  },
-)
+sides_are_histories writers before after h quiet = (history_front writers before after h, later_side writers h)
+  where
+    ordered : IsOrdered (before ++ after)
+    ordered = is_ordered_by writers (before ++ after) h
+
+    later_side : (writers : Writers) → IsHistoryBy writers (before ++ after) → IsHistoryBy writers (renumbered (left_by before) after)
+    later_side One h = record {
+      well_formed = well_formed before after ordered quiet;
+      single_writer = single_writer before after h;
+      numbered = numbered before after ordered;
+    }
+    later_side Many h = record {
+      well_formed = well_formed before after ordered quiet;
+      numbered = numbered before after ordered;
+      in_order = later_in_order before after h.in_order quiet;
+    }

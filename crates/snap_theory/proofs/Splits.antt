@@ -5,13 +5,14 @@ use Rattle.std.proofs.lemmas.Bool.{false≢true}
 use Rattle.std.proofs.lemmas.List.Elements.{All-contains}
 use Rattle.snap_core.specs.declared.event.Event.{Event}
 use Rattle.snap_core.specs.declared.event.Event.TheVariants.{BeginUpdate, BeginView, EndUpdate, EndView}
-use Rattle.snap_core.specs.Events.{process_of, IsHistory}
+use Rattle.snap_core.specs.Events.{process_of}
+use Rattle.snap_core.specs.Ordered.{IsOrdered}
 use Rattle.snap_core.specs.Calls.{Call, Operation, Views, next_place, next_answer, answer_at, calls_from, calls_of, precedes}
 use Rattle.snap_core.specs.Orders.{is_completed}
 use Rattle.snap_core.proofs.Lists.{In, Contains-from_In}
-use Rattle.snap_core.proofs.Facts.{AreCalls, Ended, precedes_from}
+use Rattle.snap_core.proofs.Facts.{Ended, precedes_from}
 use Rattle.snap_core.proofs.Begun.{Next, nothing, found, next, begins, operation_at, call_at, Begun, begun}
-use Rattle.snap_core.proofs.Histories.{are_calls}
+use Rattle.snap_core.proofs.Ordered.{AreOrderedCalls, are_ordered_calls}
 use Rattle.snap_theory.specs.Windows.{IsQuiet}
 use Rattle.snap_theory.proofs.Cuts.{IsCut}
 
@@ -106,15 +107,15 @@ pub calls_split : (before after : List Event) → IsQuiet before → calls_of (b
 unfolding calls_of
 calls_split before after quiet = calls_from-append 0 0 before after (all_completed before quiet)
 
-across : (before after : List Event) → IsQuiet before → (a b : Call) → In a (calls_of before) → In b (back_of before after) → precedes a b ≡ true
+pub across : (before after : List Event) → IsQuiet before → (a b : Call) → In a (calls_of before) → In b (back_of before after) → precedes a b ≡ true
 unfolding calls_of
 across before after quiet a b i j =
     let e = ended a (all_completed before quiet a i) in
     precedes_from a b (record { place = e.place; ends = e.ends; before = omega (arith, ends_by 0 0 before a e.place i e.ends, begins_at (0 + begins before) (0 + length before) after b j) })
 
-pub cut : (before after : List Event) → IsHistory (before ++ after) → IsQuiet before → IsCut (calls_of before) (back_of before after)
+pub cut : (before after : List Event) → IsOrdered (before ++ after) → IsQuiet before → IsCut (calls_of before) (back_of before after)
 cut before after h quiet = record {
-  calls = subst AreCalls (calls_split before after quiet) (are_calls (before ++ after) h);
+  calls = subst AreOrderedCalls (calls_split before after quiet) (are_ordered_calls (before ++ after) h);
   completed = all_completed before quiet;
   across = across before after quiet;
 }

@@ -18,6 +18,7 @@ use Rattle.snap_theory.specs.Renumbered.{renumbered}
 use Rattle.snap_theory.proofs.Empty.{atomic_from_nothing}
 use Rattle.snap_theory.proofs.Joined.{regular_joins}
 use Rattle.snap_theory.proofs.Legal.{Stands}
+use Rattle.snap_core.specs.declared.writers.Writers.TheVariants.{One}
 use Rattle.snap_theory.specs.Windows.{IsQuiet, left_by, nothing, IsRegularFrom, IsLegalOrderFrom, IsAtomicFrom}
 
 -- an update that has ended
@@ -171,7 +172,7 @@ the_whole_is_not_atomic a =
 
 -- so the law is false where a call may be open
 the_moment_must_be_quiet : ((before after : List Event) → IsHistory (before ++ after) → IsAtomic (calls_of before) × IsAtomicFrom (left_by before) (calls_of after) → IsAtomic (calls_of (before ++ after))) → ⊥
-the_moment_must_be_quiet law = the_whole_is_not_atomic (law an_open_view its_end the_whole_is_a_history ((atomic_from_nothing (calls_of an_open_view)).0 the_side_before_an_open_view_ends_is_atomic, the_side_behind_it_is_atomic))
+the_moment_must_be_quiet law = the_whole_is_not_atomic (law an_open_view its_end the_whole_is_a_history ((atomic_from_nothing One (calls_of an_open_view)).0 the_side_before_an_open_view_ends_is_atomic, the_side_behind_it_is_atomic))
 
 -- the law on a cut at a quiet moment: a view of less than was left is a fault of the whole
 the_cut_is_in_a_history : IsHistory (an_update ++ a_stale_view)
@@ -186,7 +187,7 @@ the_cut_is_in_a_history =
 
 a_view_of_less_than_was_left_is_a_fault_of_the_whole : IsRegular (calls_of (an_update ++ a_stale_view)) → ⊥
 a_view_of_less_than_was_left_is_a_fault_of_the_whole r =
-    a_view_of_less_than_was_left_is_not_regular ((regular_joins an_update a_stale_view the_cut_is_in_a_history the_moment_behind_an_ended_update_is_quiet).0 r).1
+    a_view_of_less_than_was_left_is_not_regular ((regular_joins One an_update a_stale_view the_cut_is_in_a_history the_moment_behind_an_ended_update_is_quiet).0 r).1
 
 -- with numbers from 1, a view of what was left lists nothing
 what_was_left_is_not_listed : renumbered (left_by an_update) a_view_of_it ≡ a_stale_view

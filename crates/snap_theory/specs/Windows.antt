@@ -6,6 +6,9 @@ use Rattle.snap_core.specs.declared.event.Event.{Event}
 use Rattle.snap_core.specs.Calls.{Call, calls_of, precedes, is_view, shown, shown_number}
 use Rattle.snap_core.specs.Orders.{is_completed, is_update, last_written}
 use Rattle.snap_core.specs.Regular.{IsViewOf, IsUpdateOf, IsBegunBeforeEnd}
+use Rattle.snap_core.specs.declared.writers.Writers.{Writers}
+use Rattle.snap_core.specs.declared.writers.Writers.TheVariants.{One, Many}
+use Rattle.snap_theory.specs.Versions.{IsLaterVersion}
 
 -- no call is open after these events
 abbrev pub IsQuiet : List Event → Type 0
@@ -38,3 +41,17 @@ pub record IsLegalOrderFrom (left : ℕ → Option Entry) (calls order : List Ca
 -- atomic, from what was left
 abbrev pub IsAtomicFrom : (ℕ → Option Entry) → List Call → Type 0
 IsAtomicFrom left calls = (order : List Call) × IsLegalOrderFrom left calls order
+
+-- such an order in which the numbers of each component rise
+pub record IsLegalInOrderFrom (left : ℕ → Option Entry) (calls order : List Call) : Type 0 where
+  pub legal : IsLegalOrderFrom left calls order
+  pub rising : AllPairs IsLaterVersion order
+
+-- atomic from what was left, by an order that keeps the version order
+abbrev pub IsAtomicInOrderFrom : (ℕ → Option Entry) → List Call → Type 0
+IsAtomicInOrderFrom left calls = (order : List Call) × IsLegalInOrderFrom left calls order
+
+-- atomic from what was left, by versions too where there are many writers
+abbrev pub IsAtomicFromBy : Writers → (ℕ → Option Entry) → List Call → Type 0
+IsAtomicFromBy One left calls = IsAtomicFrom left calls
+IsAtomicFromBy Many left calls = IsAtomicInOrderFrom left calls
