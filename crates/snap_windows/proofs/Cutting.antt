@@ -4,14 +4,12 @@ use Rattle.std.specs.Prelude.{IsTrue}
 use Rattle.std.specs.List.{All, count_by}
 use Rattle.std.proofs.lemmas.Bool.{and_parts, and_from, not-false, not_from_true}
 use Rattle.std.proofs.lemmas.List.Elements.{All-append, All-contains}
-use Rattle.snap_core.specs.declared.writers.Writers.TheVariants.{One}
-use Rattle.snap_core.proofs.Ordered.{history_is_ordered}
+use Rattle.snap_core.proofs.OrderedPushes.{is_ordered_by}
 use Rattle.snap_core.specs.Limited.{LimitedEvents}
 use Rattle.snap_core.specs.declared.event.Event.{Event}
 use Rattle.snap_core.specs.Calls.{Call, calls_of, views_of}
-use Rattle.snap_core.specs.Events.{IsHistory}
-use Rattle.snap_core.specs.Bounded.{IsBoundedHistory}
-use Rattle.snap_core.specs.Orders.{IsAtomic, is_completed}
+use Rattle.snap_core.specs.Bounded.{IsBoundedBy, IsHistoryBy}
+use Rattle.snap_core.specs.Orders.{is_completed}
 use Rattle.snap_core.specs.Regular.{IsRegular}
 use Rattle.snap_core.proofs.Begun.{begins}
 use Rattle.snap_core.proofs.Fits.{bytes_of_events}
@@ -21,11 +19,12 @@ use Rattle.snap_index.specs.Updates.{is_pending}
 use Rattle.snap_conditions.specs.Tally.{CountsNoFault, CountsNoLocalFault, tally_of}
 use Rattle.snap_conditions.proofs.Ranges.{no_fault_by_tally, regular_by_tally}
 use Rattle.snap_theory.specs.Renumbered.{ShowsNoLess, renumbered}
-use Rattle.snap_theory.specs.Windows.{IsAtomicFrom, IsQuiet, IsRegularFrom, left_by}
+use Rattle.snap_theory.specs.Versions.{IsAtomicBy}
+use Rattle.snap_theory.specs.Windows.{IsAtomicFromBy, IsQuiet, IsRegularFrom, left_by}
 use Rattle.snap_theory.proofs.GoingOn.{histories_join, well_formed_before}
 use Rattle.snap_theory.proofs.Joined.{atomic_joins, back_moved, regular_joins}
 use Rattle.snap_theory.proofs.Moved.{moved, moved_completed}
-use Rattle.snap_theory.proofs.OrderLaws.{atomic_exactly}
+use Rattle.snap_theory.proofs.OrderLaws.{atomic_by_exactly}
 use Rattle.snap_theory.proofs.Orders.{All-from_In}
 use Rattle.snap_theory.proofs.Renumbered.{call_by, calls_by, image_by}
 use Rattle.snap_theory.proofs.Splits.{calls_split}
@@ -96,34 +95,34 @@ quiet_by_window before since quiet = (to, from)
 
 shows_no_less : (judge : WindowJudge) (before since : List Event) → HasTaken judge before since → IsTrue judge.shows ↔ ShowsNoLess (left_by before) (calls_of since)
 shows_no_less judge before since h =
-    let w = well_formed_before (left_by before) since ((histories_join before since h.quiet).0 h.history).1.well_formed in
+    let w = well_formed_before (left_by before) since (is_ordered_by judge.most.writers _ ((histories_join judge.most.writers before since h.quiet).0 h.history).1).well_formed in
     let e = shows_by_events (left_by before) since w in
     (λ t. e.1 (h.shows.0 t), λ s. h.shows.1 (e.0 s))
 
-window_history : (judge : WindowJudge) (before since : List Event) → HasTaken judge before since → IsBoundedHistory judge.window.events → IsBoundedHistory (renumbered (left_by before) since)
-window_history judge before since h b = subst IsBoundedHistory h.window b
+window_history : (judge : WindowJudge) (before since : List Event) → HasTaken judge before since → IsBoundedBy judge.window.limit.writers judge.window.events → IsBoundedBy judge.most.writers (renumbered (left_by before) since)
+window_history judge before since h b = subst (IsBoundedBy judge.most.writers) h.window (subst (λ l. IsBoundedBy l.writers judge.window.events) h.limit b)
 
-pub regular_window : (judge : WindowJudge) (before since : List Event) (b v : Bool) → HasTaken judge before since → IsBoundedHistory judge.window.events →
+pub regular_window : (judge : WindowJudge) (before since : List Event) (b v : Bool) → HasTaken judge before since → IsBoundedBy judge.window.limit.writers judge.window.events →
     (IsTrue b ↔ CountsNoLocalFault (tally_of (calls_of judge.window.events) (views_of (calls_of judge.window.events)))) → (IsTrue v ↔ (IsTrue judge.shows × IsTrue b)) → IsTrue v ↔ IsRegularFrom (left_by before) (calls_of since)
 regular_window judge before since b v h k counts both =
     let es = renumbered (left_by before) since in
     let w = window_history judge before since h k in
-    let law = regular_by_tally es (history_is_ordered es w.history) (bytes_of_events es w.fit) in
-    let law2 = regular_is_renumbered before since h.history h.fit h.quiet in
+    let law = regular_by_tally es (is_ordered_by judge.most.writers es w.history) (bytes_of_events es w.fit) in
+    let law2 = regular_is_renumbered judge.most.writers before since h.history h.fit h.quiet in
     let shows = shows_no_less judge before since h in
     let counts2 : IsTrue b ↔ CountsNoLocalFault (tally_of (calls_of es) (views_of (calls_of es))) = subst (λ z. IsTrue b ↔ CountsNoLocalFault (tally_of (calls_of z) (views_of (calls_of z)))) h.window counts in (
       λ t. let p = both.0 t in law2.1 (shows.0 p.0, law.0 (counts2.0 p.1)),
       λ r. let s = law2.0 r in both.1 (shows.1 s.0, counts2.1 (law.1 s.1)),
     )
 
-pub atomic_window : (judge : WindowJudge) (before since : List Event) (b v : Bool) → HasTaken judge before since → IsBoundedHistory judge.window.events →
-    (IsTrue b ↔ CountsNoFault (tally_of (calls_of judge.window.events) (views_of (calls_of judge.window.events)))) → (IsTrue v ↔ (IsTrue judge.shows × IsTrue b)) → IsTrue v ↔ IsAtomicFrom (left_by before) (calls_of since)
+pub atomic_window : (judge : WindowJudge) (before since : List Event) (b v : Bool) → HasTaken judge before since → IsBoundedBy judge.window.limit.writers judge.window.events →
+    (IsTrue b ↔ CountsNoFault (tally_of (calls_of judge.window.events) (views_of (calls_of judge.window.events)))) → (IsTrue v ↔ (IsTrue judge.shows × IsTrue b)) → IsTrue v ↔ IsAtomicFromBy judge.most.writers (left_by before) (calls_of since)
 atomic_window judge before since b v h k counts both =
     let es = renumbered (left_by before) since in
     let w = window_history judge before since h k in
-    let law = atomic_exactly es w.history (bytes_of_events es w.fit) in
+    let law = atomic_by_exactly judge.most.writers es w.history (bytes_of_events es w.fit) in
     let none = no_fault_by_tally (calls_of es) in
-    let law2 = atomic_is_renumbered before since h.history h.fit h.quiet in
+    let law2 = atomic_is_renumbered judge.most.writers before since h.history h.fit h.quiet in
     let shows = shows_no_less judge before since h in
     let counts2 : IsTrue b ↔ CountsNoFault (tally_of (calls_of es) (views_of (calls_of es))) = subst (λ z. IsTrue b ↔ CountsNoFault (tally_of (calls_of z) (views_of (calls_of z)))) h.window counts in (
       λ t. let p = both.0 t in law2.1 (shows.0 p.0, law.1 (none.0 (counts2.0 p.1))),
@@ -134,30 +133,29 @@ atomic_window judge before since b v h k counts both =
 
 pub regular_whole : (judge : WindowJudge) (before since : List Event) (v w : Bool) → HasTaken judge before since → (IsTrue v ↔ IsRegularFrom (left_by before) (calls_of since)) → (IsTrue w ↔ (IsTrue judge.regular × IsTrue v)) → IsTrue w ↔ IsRegular (calls_of (before ++ since))
 regular_whole judge before since v w h is both =
-    let law = regular_joins before since h.history h.quiet in (
+    let law = regular_joins judge.most.writers before since h.history h.quiet in (
       λ t. let p = both.0 t in law.1 (h.regular.0 p.0, is.0 p.1),
       λ r. let s = law.0 r in both.1 (h.regular.1 s.0, is.1 s.1),
     )
 
-pub atomic_whole : (judge : WindowJudge) (before since : List Event) (v w : Bool) → HasTaken judge before since → (IsTrue v ↔ IsAtomicFrom (left_by before) (calls_of since)) → (IsTrue w ↔ (IsTrue judge.atomic × IsTrue v)) → IsTrue w ↔ IsAtomic (calls_of (before ++ since))
+pub atomic_whole : (judge : WindowJudge) (before since : List Event) (v w : Bool) → HasTaken judge before since → (IsTrue v ↔ IsAtomicFromBy judge.most.writers (left_by before) (calls_of since)) → (IsTrue w ↔ (IsTrue judge.atomic × IsTrue v)) → IsTrue w ↔ IsAtomicBy judge.most.writers (calls_of (before ++ since))
 atomic_whole judge before since v w h is both =
-    let law = atomic_joins before since h.history h.quiet in (
+    let law = atomic_joins judge.most.writers before since h.history h.quiet in (
       λ t. let p = both.0 t in law.1 (h.atomic.0 p.0, is.0 p.1),
       λ r. let s = law.0 r in both.1 (h.atomic.1 s.0, is.1 s.1),
     )
 
 -- the judge after a cut
-pub cut_taken : (judge : WindowJudge) (before since : List Event) (window : LimitedEvents) (regular atomic : Bool) → HasTaken judge before since → IsQuiet (before ++ since) → window.events ≡ [] → window.limit.events ≡ judge.most.events → window.limit.writers ≡ One → (IsTrue regular ↔ IsRegular (calls_of (before ++ since))) → (IsTrue atomic ↔ IsAtomic (calls_of (before ++ since))) →
+pub cut_taken : (judge : WindowJudge) (before since : List Event) (window : LimitedEvents) (regular atomic : Bool) → HasTaken judge before since → IsQuiet (before ++ since) → window.events ≡ [] → window.limit ≡ judge.most → (IsTrue regular ↔ IsRegular (calls_of (before ++ since))) → (IsTrue atomic ↔ IsAtomicBy judge.most.writers (calls_of (before ++ since))) →
     HasTaken (record { left = judge.last; last = judge.last; window = window; shows = true; regular = regular; atomic = atomic; most = judge.most }) (before ++ since) []
-cut_taken judge before since window regular atomic h quiet empty same one r a = record {
-  history = subst IsHistory (sym (append-nil (before ++ since))) h.history;
+cut_taken judge before since window regular atomic h quiet empty same r a = record {
+  history = subst (IsHistoryBy judge.most.writers) (sym (append-nil (before ++ since))) h.history;
   fit = λ k d l. absurd (omega (arith, l));
   quiet = quiet;
   left = h.last;
   last = subst (HasLast judge.last) (sym (append-nil (before ++ since))) h.last;
   window = empty;
   limit = same;
-  one_writer = one;
   shows = (λ t k d l. absurd (omega (arith, l)), λ z. refl);
   regular = r;
   atomic = a;

@@ -1,13 +1,15 @@
 -- The recording without events.
 use Rattle.std.proofs.Common.{◌≡◌, true, List, [], ◌∷◌, ◌++◌, refl, arith}
-use Rattle.snap_core.specs.declared.writers.Writers.TheVariants.{One}
+use Rattle.snap_core.specs.declared.writers.Writers.{Writers}
+use Rattle.snap_core.specs.declared.writers.Writers.TheVariants.{One, Many}
 use Rattle.snap_core.specs.declared.limit.Limit.{Limit}
 use Rattle.snap_core.specs.Limited.{LimitedEvents}
 use Rattle.snap_core.specs.Calls.{Call, calls_of}
-use Rattle.snap_core.specs.Orders.{IsAtomic, IsLegalOrder}
+use Rattle.snap_core.specs.Orders.{IsLegalOrder}
+use Rattle.snap_theory.specs.Versions.{IsAtomicBy}
 use Rattle.snap_core.specs.Regular.{IsRegular}
 use Rattle.snap_core.proofs.Lists.{In-from_Contains}
-use Rattle.snap_core.proofs.Pushes.{history_nil}
+use Rattle.snap_core.proofs.OrderedPushes.{bounded_nil}
 use Rattle.snap_theory.specs.Windows.{IsQuiet}
 use Rattle.snap_windows.specs.declared.last.Wrote.{Wrote}
 use Rattle.snap_windows.specs.Last.{HasLast}
@@ -41,21 +43,21 @@ regular_nothing : IsRegular (calls_of [])
 unfolding calls_of
 regular_nothing = no_calls_are_regular
 
-atomic_nothing : IsAtomic (calls_of [])
+atomic_nothing : (writers : Writers) → IsAtomicBy writers (calls_of [])
 unfolding calls_of
-atomic_nothing = ([], no_calls_are_legal)
+atomic_nothing One = ([], no_calls_are_legal)
+atomic_nothing Many = ([], record { legal = no_calls_are_legal; rising = λ i j d l m. absurd (omega (arith, m)) })
 
-pub nothing_taken : (left last : List (Option Wrote)) (window : LimitedEvents) (most : Limit) → HasLast left [] → HasLast last [] → window.events ≡ [] → window.limit.events ≡ most.events → window.limit.writers ≡ One → HasTaken (record { left = left; last = last; window = window; shows = true; regular = true; atomic = true; most = most }) [] []
-nothing_taken left last window most a b w l one = record {
-  history = history_nil;
+pub nothing_taken : (left last : List (Option Wrote)) (window : LimitedEvents) (most : Limit) → HasLast left [] → HasLast last [] → window.events ≡ [] → window.limit ≡ most → HasTaken (record { left = left; last = last; window = window; shows = true; regular = true; atomic = true; most = most }) [] []
+nothing_taken left last window most a b w l = record {
+  history = (bounded_nil most.writers).history;
   fit = λ k d l. absurd (omega (arith, l));
   quiet = quiet_nothing;
   left = a;
   last = b;
   window = w;
   limit = l;
-  one_writer = one;
   shows = (λ t k d l. absurd (omega (arith, l)), λ h. refl);
   regular = (λ t. regular_nothing, λ h. refl);
-  atomic = (λ t. atomic_nothing, λ h. refl);
+  atomic = (λ t. atomic_nothing most.writers, λ h. refl);
 }

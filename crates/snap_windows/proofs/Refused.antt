@@ -1,21 +1,18 @@
 -- What the first refusal of an event says.
-use Rattle.std.proofs.Common.{◌≡◌, ◌≤◌, Bool, true, false, cond, List, length, Option, Some, None, refl, sym, ap, ◌∙◌, subst}
+use Rattle.std.proofs.Common.{◌≡◌, ◌≤◌, Bool, true, false, cond, List, length, Option, Some, None, refl, sym, ap, ◌∙◌}
 use Rattle.std.specs.Prelude.{nat_le}
 use Rattle.std.proofs.lemmas.Bool.{leb-true}
 use Rattle.snap_core.specs.declared.limit.Limit.{Limit}
-use Rattle.snap_core.specs.declared.writers.Writers.TheVariants.{One}
 use Rattle.snap_core.specs.declared.event.Event.{Event}
 use Rattle.snap_core.specs.declared.history.EventRefusal.{EventRefusal}
 use Rattle.snap_core.specs.declared.history.EventRefusal.TheVariants.{TooMany, Busy, Idle, OtherOp, Writer, Number, Order, Memory}
-use Rattle.snap_core.specs.Refusals.{IsAccepted, IsAcceptedBy, breaks_order, breaks_writer, has_other_writer, has_other_number, is_busy, is_idle, is_other, refusal_of}
+use Rattle.snap_core.specs.Refusals.{IsAcceptedBy, breaks_order, breaks_writer, has_other_number, is_busy, is_idle, is_other, refusal_of}
 use Rattle.snap_core.proofs.Picks.{pick, picked, accepted_none}
 use Rattle.snap_windows.specs.inside.Refused.{behind_writer, first_refusal}
 
--- where each component has one writer, a history that accepts an event refuses it for its length alone
-accepted_refusal : (limit : Limit) (es : List Event) (e : Event) → limit.writers ≡ One → IsAccepted es e → refusal_of limit es e ≡ cond (nat_le limit.events (length es)) (Some TooMany) None
-accepted_refusal limit es e one a =
-    let by = subst (λ w. IsAcceptedBy w es e) (sym one) a in
-    picked limit es e (nat_le limit.events (length es)) false false false false false false refl by.not_busy by.not_idle by.not_other by.writer by.number by.order
+-- a history that accepts an event refuses it for its length alone
+accepted_refusal : (limit : Limit) (es : List Event) (e : Event) → IsAcceptedBy limit.writers es e → refusal_of limit es e ≡ cond (nat_le limit.events (length es)) (Some TooMany) None
+accepted_refusal limit es e by = picked limit es e (nat_le limit.events (length es)) false false false false false false refl by.not_busy by.not_idle by.not_other by.writer by.number by.order
 
 too_many : (limit : Limit) (es : List Event) (e : Event) → refusal_of limit es e ≡ Some TooMany → limit.events ≤ length es
 too_many limit es e h = go (nat_le limit.events (length es)) refl (is_busy es e) refl (is_idle es e) refl (is_other es e) refl (breaks_writer limit.writers es e) refl (has_other_number es e) refl (breaks_order limit.writers es e) refl
@@ -60,19 +57,19 @@ writer_too_many false o h = h
 -- nothing refuses the event
 pub record IsFree (limit : Limit) (window : List Event) (renumbered : Event) (before : List Event) (event : Event) : Type 0 where
   pub none : refusal_of limit window renumbered ≡ None
-  pub accepted : IsAccepted window renumbered
-  pub writer : has_other_writer before event ≡ false
+  pub accepted : IsAcceptedBy limit.writers window renumbered
+  pub writer : breaks_writer limit.writers before event ≡ false
 
-pub free : (limit : Limit) (window : List Event) (renumbered : Event) (before : List Event) (event : Event) → limit.writers ≡ One → first_refusal limit window renumbered before event ≡ None → IsFree limit window renumbered before event
-free limit window renumbered before event one h =
-    let w = writer_none (has_other_writer before event) (refusal_of limit window renumbered) h in
-    record { none = w.0; accepted = subst (λ z. IsAcceptedBy z window renumbered) one (accepted_none limit window renumbered w.0).0; writer = w.1 }
+pub free : (limit : Limit) (window : List Event) (renumbered : Event) (before : List Event) (event : Event) → first_refusal limit window renumbered before event ≡ None → IsFree limit window renumbered before event
+free limit window renumbered before event h =
+    let w = writer_none (breaks_writer limit.writers before event) (refusal_of limit window renumbered) h in
+    record { none = w.0; accepted = (accepted_none limit window renumbered w.0).0; writer = w.1 }
 
 -- an event that both sides accept is refused for the length alone
-pub refused_for_length : (limit : Limit) (window : List Event) (renumbered : Event) (before : List Event) (event : Event) (why : EventRefusal) → limit.writers ≡ One → IsAccepted window renumbered → has_other_writer before event ≡ false →
+pub refused_for_length : (limit : Limit) (window : List Event) (renumbered : Event) (before : List Event) (event : Event) (why : EventRefusal) → IsAcceptedBy limit.writers window renumbered → breaks_writer limit.writers before event ≡ false →
     first_refusal limit window renumbered before event ≡ Some why → why ≡ TooMany
-refused_for_length limit window renumbered before event why one a f h =
-    go (nat_le limit.events (length window)) (sym (accepted_refusal limit window renumbered one a) ∙ ap (λ z. behind_writer z (refusal_of limit window renumbered)) (sym f) ∙ h)
+refused_for_length limit window renumbered before event why a f h =
+    go (nat_le limit.events (length window)) (sym (accepted_refusal limit window renumbered a) ∙ ap (λ z. behind_writer z (refusal_of limit window renumbered)) (sym f) ∙ h)
   where
     go : (b : Bool) → cond b (Some TooMany) None ≡ Some why → why ≡ TooMany
     go true g = cc
@@ -80,4 +77,4 @@ refused_for_length limit window renumbered before event why one a f h =
 
 -- a refusal for the length comes to a full window
 pub full : (limit : Limit) (window : List Event) (renumbered : Event) (before : List Event) (event : Event) → first_refusal limit window renumbered before event ≡ Some TooMany → limit.events ≤ length window
-full limit window renumbered before event h = too_many limit window renumbered (writer_too_many (has_other_writer before event) (refusal_of limit window renumbered) h)
+full limit window renumbered before event h = too_many limit window renumbered (writer_too_many (breaks_writer limit.writers before event) (refusal_of limit window renumbered) h)

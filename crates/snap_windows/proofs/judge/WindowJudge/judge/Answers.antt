@@ -11,7 +11,7 @@ use Rattle.snap_windows.proofs.judge.WindowJudge.judge.Goals as goal
 pub returns-clause-window : goal.returns-clause-window
 returns-clause-window c = λ before since h.
     let judge = c.args.self.now in
-    let k = c.events-events.ensures.history in
+    let k = c.events-events.ensures.limited in
     let whole = c.in_ok-tally.ensures.tally ∙ ap (λ z. tally_of (calls_of z) (views_of (calls_of z))) c.in_ok-index.ensures in
     let local : IsTrue c.is_regular.result ↔ CountsNoLocalFault (tally_of (calls_of judge.window.events) (views_of (calls_of judge.window.events))) = subst (λ z. IsTrue c.is_regular.result ↔ CountsNoLocalFault z) whole c.is_regular.ensures in
     let none : IsTrue c.is_atomic.result ↔ CountsNoFault (tally_of (calls_of judge.window.events) (views_of (calls_of judge.window.events))) = subst (λ z. IsTrue c.is_atomic.result ↔ CountsNoFault z) whole c.is_atomic.ensures in
