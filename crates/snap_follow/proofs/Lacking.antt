@@ -2,6 +2,7 @@
 use Rattle.std.proofs.Common.{◌≡◌, ◌≢◌, ◌∙◌, ℕ, Bool, false, List, [], Option, Some, None, Result, Ok, Err, ap, subst, sym, refl}
 use Rattle.std.specs.Prelude.{IfErr, IfOk, IfSome, is_some}
 use Rattle.std.proofs.lemmas.Bool.{false≢true}
+use Rattle.snap_core.specs.declared.limit.Limit.{Limit}
 use Rattle.snap_follow.specs.Texts.{AreNone, OnLost}
 use Rattle.snap_follow.specs.declared.course.Course.{Course}
 use Rattle.snap_follow.specs.declared.pieces.AtHand.{AtHand}
@@ -74,7 +75,7 @@ not_lost (Err e) loses none = tt
 
 -- no text has come, and none is left
 pub none_known : {R : Type 0} (remaining : R → Option (List ℕ)) (c : Course) (hand new : AtHand R) (left : Option (List (List ℕ))) → new ≡ hand → new.text ≡ None → IfSome left (λ later. later ≡ []) →
-    (gone : List ℕ) (least most : ℕ) (all : List (List ℕ)) → IsUnderWay remaining c hand left gone least most all → all ≡ []
+    (gone : List ℕ) (least : ℕ) (most : Limit) (all : List (List ℕ)) → IsUnderWay remaining c hand left gone least most all → all ≡ []
 none_known remaining c hand new left same is none gone least most all h =
     let come : HasCome remaining c None h.later gone least most all = subst (λ z. HasCome remaining c z h.later gone least most all) (subst (λ z. z.text ≡ None) same is) h.come in
     sym come.0 ∙ subst (λ z. IfSome z (λ later. later ≡ [])) h.left_is none

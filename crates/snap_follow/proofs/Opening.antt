@@ -6,7 +6,7 @@ use Rattle.std.proofs.lemmas.Bool.{eq-eqb, eqb-false, eqb-true}
 use Rattle.std.proofs.lemmas.List.Sums.{count_by-le-length, length-filter, sum_by-append}
 use Rattle.snap_core.specs.declared.event.Event.{Event}
 use Rattle.snap_core.specs.declared.event.Event.TheVariants.{BeginUpdate, BeginView, EndUpdate, EndView}
-use Rattle.snap_core.specs.Events.{process_of, IsBegin, Ends, TakeTurns, events_of, IsHistory}
+use Rattle.snap_core.specs.Events.{process_of, IsBegin, Ends, TakeTurns, events_of, IsWellFormed}
 use Rattle.snap_core.specs.Refusals.{is_begin}
 use Rattle.snap_core.proofs.Lists.{count-cons}
 use Rattle.snap_theory.specs.Windows.{IsQuiet}
@@ -113,17 +113,17 @@ turns_even (b ∷ e ∷ es) t even =
 
 -- of all of them
 
-ended_few : (events : List Event) → IsHistory events → count_by is_end events ≤ count_by is_begin events
-ended_few events h = by_process is_end is_begin (length events) events (omega arith) (λ p. turns_ended (events_of p events) (h.well_formed p))
+ended_few : (events : List Event) → IsWellFormed events → count_by is_end events ≤ count_by is_begin events
+ended_few events h = by_process is_end is_begin (length events) events (omega arith) (λ p. turns_ended (events_of p events) (h p))
 
 -- where no call is open, none counts as open
-pub none_open : (events : List Event) → IsHistory events → IsQuiet events → open_after events ≡ 0
+pub none_open : (events : List Event) → IsWellFormed events → IsQuiet events → open_after events ≡ 0
 none_open events h quiet =
-    let all = by_process is_begin is_end (length events) events (omega arith) (λ p. turns_even (events_of p events) (h.well_formed p) (even_quiet events quiet p (h.well_formed p))) in
+    let all = by_process is_begin is_end (length events) events (omega arith) (λ p. turns_even (events_of p events) (h p) (even_quiet events quiet p (h p))) in
     omega (arith, all)
 
 -- one event more
-pub open_more : (events : List Event) (x : Event) (before after : ℕ) → IsHistory events → before ≤ open_after events → CountsOpen before x after → after ≤ open_after (events ++ x ∷ [])
+pub open_more : (events : List Event) (x : Event) (before after : ℕ) → IsWellFormed events → before ≤ open_after events → CountsOpen before x after → after ≤ open_after (events ++ x ∷ [])
 open_more events x before after h few counts = go (is_begin x) refl counts
   where
     pushed : (f : Event → Bool) (b : Bool) → f x ≡ b → count_by f (events ++ x ∷ []) ≡ count_by f events + cond b 1 0

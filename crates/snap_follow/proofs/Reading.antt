@@ -5,8 +5,10 @@ use Rattle.std.proofs.lemmas.Bool.{false≢true}
 use Rattle.std.proofs.lemmas.List.{length-map, map-append}
 use Rattle.std.proofs.lemmas.List.Sums.{sum_by_push}
 use Rattle.std.proofs.lemmas.Grind.{flat_map-append}
+use Rattle.snap_core.specs.declared.limit.Limit.{Limit}
 use Rattle.snap_core.specs.declared.event.Event.{Event}
-use Rattle.snap_core.specs.Events.{IsHistory}
+use Rattle.snap_core.specs.Events.{IsWellFormed}
+use Rattle.snap_core.proofs.OrderedPushes.{is_ordered_by}
 use Rattle.snap_format.specs.Rows.{rows_of}
 use Rattle.snap_text.specs.Fields.{Fields}
 use Rattle.snap_windows.specs.Taken.{HasTaken}
@@ -65,7 +67,7 @@ span_more f g since x p next h = record {
 
 -- the judge was given nothing more, and lines more were read
 abbrev pub ReadsNone : Follow → Follow → List (List ℕ) → Type 0
-ReadsNone old new added = (least most : ℕ) (texts : List (List (List ℕ))) (lines : List (List ℕ)) (events : List Event) (h : HasRead old least most texts lines events) →
+ReadsNone old new added = (least : ℕ) (most : Limit) (texts : List (List (List ℕ))) (lines : List (List ℕ)) (events : List Event) (h : HasRead old least most texts lines events) →
     (n : HasRead new least most texts (lines ++ added) events) × (n.before ≡ h.before) × (n.since ≡ h.since) × (n.places ≡ h.places)
 
 -- the same judge, with the same window at hand
@@ -82,7 +84,7 @@ reads_none f g added keeps says least most texts lines events h =
     let next = says h.form texts lines h.earlier h.here h.form_is h.texts_say h.lines_say h.waiting h.place_is in (
       record {
         least_is = keeps.2 ∙ h.least_is;
-        most_is = ap (λ z. z.most.events) keeps.0 ∙ h.most_is;
+        most_is = ap (λ z. z.most) keeps.0 ∙ h.most_is;
         opened = rw keeps.3 h.opened;
         before = h.before;
         since = h.since;
@@ -130,8 +132,8 @@ SaysOne f g turn added = (form : Form) (texts : List (List (List ℕ))) (lines :
     IsFormOf g form texts × SaysSoFar g form (length texts) (lines ++ added) ((here ++ turn ∷ []) ++ g.waiting.turns.items) × AreWaiting form g (earlier ++ (here ++ turn ∷ [])) × IsPlaceOf g.place texts (lines ++ added)
 
 -- the events are a history
-pub read_history : (f : Follow) {least most : ℕ} {texts : List (List (List ℕ))} {lines : List (List ℕ)} {events : List Event} → HasRead f least most texts lines events → IsHistory events
-read_history f h = subst IsHistory (sym h.windows) h.taken.history
+pub read_well_formed : (f : Follow) {least : ℕ} {most : Limit} {texts : List (List (List ℕ))} {lines : List (List ℕ)} {events : List Event} → HasRead f least most texts lines events → IsWellFormed events
+read_well_formed f h = subst IsWellFormed (sym h.windows) (is_ordered_by f.judge.most.writers _ h.taken.history).well_formed
 
 pub reads_one : (f g : Follow) (turn : Turn) (added : List (List ℕ)) → KeepsRule f g → CountsOpen f.open_calls turn.event g.open_calls → HasOneMore f.span turn.event turn.place g.span → MissesNext f.judge turn.event f.span.missed turn.place g.span.missed →
     ((before since : List Event) → HasTaken f.judge before since → HasTaken g.judge before (since ++ turn.event ∷ [])) → SaysOne f g turn added → ReadsMore f g added
@@ -141,8 +143,8 @@ reads_one f g turn added keeps counts one misses taken says least most texts lin
       omega arith,
       record {
         least_is = keeps.0 ∙ h.least_is;
-        most_is = ap (λ z. z.events) keeps.1 ∙ h.most_is;
-        opened = open_more events x f.open_calls g.open_calls (read_history f h) h.opened counts;
+        most_is = keeps.1 ∙ h.most_is;
+        opened = open_more events x f.open_calls g.open_calls (read_well_formed f h) h.opened counts;
         before = h.before;
         since = h.since ++ x ∷ [];
         taken = taken h.before h.since h.taken;
@@ -212,7 +214,7 @@ pub text_ended : (f g : Follow) → f.headed ≡ true → g.headed ≡ false →
 text_ended f g old new form_same waiting_same given_same keeps next none least most texts lines events h nothing = (
   record {
     least_is = keeps.2 ∙ h.least_is;
-    most_is = ap (λ z. z.most.events) keeps.0 ∙ h.most_is;
+    most_is = ap (λ z. z.most) keeps.0 ∙ h.most_is;
     opened = rw keeps.3 h.opened;
     before = h.before;
     since = h.since;
@@ -254,12 +256,12 @@ text_ended f g old new form_same waiting_same given_same keeps next none least m
 
 -- a window has ended
 pub window_ended : (f g : Follow) → g.headed ≡ f.headed → g.form ≡ f.form → g.waiting ≡ f.waiting → g.given ≡ f.given → g.place ≡ f.place → IsSpanOf g.span [] → g.span.missed ≡ None → KeepsRule f g → g.open_calls ≡ f.open_calls → ((before since : List Event) → HasTaken f.judge before since → HasTaken g.judge (before ++ since) []) →
-    (least most : ℕ) (texts : List (List (List ℕ))) (lines : List (List ℕ)) (events : List Event) (h : HasRead f least most texts lines events) →
+    (least : ℕ) (most : Limit) (texts : List (List (List ℕ))) (lines : List (List ℕ)) (events : List Event) (h : HasRead f least most texts lines events) →
     (n : HasRead g least most texts lines events) × (n.before ≡ h.before ++ h.since) × (n.since ≡ []) × (n.places ≡ h.places)
 window_ended f g headed form_same waiting_same given_same place_same span none keeps calls_same ends least most texts lines events h = (
   record {
     least_is = keeps.0 ∙ h.least_is;
-    most_is = ap (λ z. z.events) keeps.1 ∙ h.most_is;
+    most_is = keeps.1 ∙ h.most_is;
     opened = rw calls_same h.opened;
     before = h.before ++ h.since;
     since = [];

@@ -3,7 +3,7 @@ use Rattle.std.proofs.Common.{◌≡◌, ◌≤◌, ◌⊎◌, ℕ, true, false,
 use Rattle.std.specs.Prelude.{IfErr}
 use Rattle.std.proofs.lemmas.Bool.{false≢true}
 use Rattle.snap_core.specs.declared.event.Event.{Event}
-use Rattle.snap_core.specs.Events.{IsHistory}
+use Rattle.snap_core.specs.Bounded.{IsHistoryBy}
 use Rattle.snap_format.specs.Rows.{rows_of}
 use Rattle.snap_format.specs.Stamps.{stamped_row}
 use Rattle.snap_text.specs.Fields.{Fields, row_event}
@@ -45,11 +45,11 @@ no_first x xs e = omega (arith, ap length e)
 
 -- an event that the judge refuses
 pub event_refused : (f : Follow) (line : List ℕ) (why : Ended) (row : Fields) (x : Event) → f.headed ≡ true → rows_of line ≡ row ∷ [] → row_event row ≡ Ok x →
-    ((before since : List Event) → HasTaken f.judge before since → IsHistory (before ++ (since ++ x ∷ [])) → IsLack f.judge since why) → RefusesLine f line why
+    ((before since : List Event) → HasTaken f.judge before since → IsHistoryBy f.judge.most.writers (before ++ (since ++ x ∷ [])) → IsLack f.judge since why) → RefusesLine f line why
 event_refused f line why row x old rows event refused least most texts lines events h (inl none) = absurd (no_first row [] (sym rows ∙ none))
 event_refused f line why row x old rows event refused least most texts lines events h (inr (inl (o, plain, head, is, header))) = absurd (false≢true (sym o ∙ old))
 event_refused f line why row x old rows event refused least most texts lines events h (inr (inr (o, plain, other, y, is, spelled, history))) = (
-  refused h.before h.since h.taken (subst IsHistory (ap (λ z. z ++ y ∷ []) h.windows ∙ append_assoc h.before h.since (y ∷ []) ∙ ap (λ z. h.before ++ (h.since ++ z ∷ [])) same) history),
+  refused h.before h.since h.taken (subst (IsHistoryBy f.judge.most.writers) (ap (λ z. z ++ y ∷ []) h.windows ∙ append_assoc h.before h.since (y ∷ []) ∙ ap (λ z. h.before ++ (h.since ++ z ∷ [])) same) history),
   inr (old, λ none. no_first row [] (sym rows ∙ none)),
 )
   where
@@ -84,7 +84,7 @@ lack_by judge since place refusal (inr lacking) most = subst (λ z. IsLack judge
 pub stops_at : (f : Follow) (line : List ℕ) (why : Ended) → IsRefusal why → RefusesLine f line why → StopsAt f line
 stops_at f line (Refused place fault) is refuses least most texts lines events h goes_on =
     let lack = refuses least most texts lines events h goes_on in
-    (subst (λ z. z ≤ length h.since) h.most_is lack.0.1, go lack.1)
+    (subst (λ z. z.events ≤ length h.since) h.most_is lack.0.1, go lack.1)
   where
     go : (Refused place fault ≡ Memory) ⊎ AreEvents f (rows_of line) → AreEvents f (rows_of line)
     go (inl memory) = absurd (subst IsRefusal memory is)

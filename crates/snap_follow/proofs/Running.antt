@@ -4,6 +4,7 @@ use Rattle.std.specs.Prelude.{IfSome, IsSome, IsTrue, ◌↔◌}
 use Rattle.std.specs.List.{AllZip}
 use Rattle.std.proofs.lemmas.Bool.{false≢true}
 use Rattle.std.specs.Io.KnownBytes.{Consumes, IsAtEnd}
+use Rattle.snap_core.specs.declared.limit.Limit.{Limit}
 use Rattle.snap_core.specs.declared.event.Event.{Event}
 use Rattle.snap_core.specs.Counting.{inner_of}
 use Rattle.snap_core.specs.declared.counted.Counted.{Counted}
@@ -38,18 +39,18 @@ answered_still a b gone told same h = record {
 }
 
 -- what was told with some answers is told with others that have the same
-told_by : (a b : Answers) (gone all : List ℕ) (least : ℕ) (places : List Place) (before : List Event) → ((told : List Told) → HasAnswered a gone told → HasAnswered b all told) → HasTold a gone least places before → HasTold b all least places before
-told_by a b gone all least places before f h = record { told = h.told; answered = f h.told h.answered; all = h.all; each = h.each; ended = h.ended }
+told_by : (a b : Answers) (gone all : List ℕ) (least : ℕ) (most : Limit) (places : List Place) (before : List Event) → ((told : List Told) → HasAnswered a gone told → HasAnswered b all told) → HasTold a gone least most places before → HasTold b all least most places before
+told_by a b gone all least most places before f h = record { told = h.told; answered = f h.told h.answered; all = h.all; each = h.each; ended = h.ended }
 
-judged_by : (f : Follow) (a b : Answers) (gone all : List ℕ) {least most : ℕ} {texts : List (List (List ℕ))} {lines : List (List ℕ)} {events : List Event} → ((told : List Told) → HasAnswered a gone told → HasAnswered b all told) →
+judged_by : (f : Follow) (a b : Answers) (gone all : List ℕ) {least : ℕ} {most : Limit} {texts : List (List (List ℕ))} {lines : List (List ℕ)} {events : List Event} → ((told : List Told) → HasAnswered a gone told → HasAnswered b all told) →
     HasJudged f a gone least most texts lines events → HasJudged f b all least most texts lines events
-judged_by f a b gone all {least} {most} {texts} {lines} {events} keeps h = record { read = h.read; in_time = h.in_time; first = h.first; told = told_by a b gone all least h.read.places h.read.before keeps h.told }
+judged_by f a b gone all {least} {most} {texts} {lines} {events} keeps h = record { read = h.read; in_time = h.in_time; first = h.first; told = told_by a b gone all least most h.read.places h.read.before keeps h.told }
 
-judged_still : (f : Follow) (a b : Answers) {gone : List ℕ} {least most : ℕ} {texts : List (List (List ℕ))} {lines : List (List ℕ)} {events : List Event} → IsSameAnswer a b → HasJudged f a gone least most texts lines events → HasJudged f b gone least most texts lines events
+judged_still : (f : Follow) (a b : Answers) {gone : List ℕ} {least : ℕ} {most : Limit} {texts : List (List (List ℕ))} {lines : List (List ℕ)} {events : List Event} → IsSameAnswer a b → HasJudged f a gone least most texts lines events → HasJudged f b gone least most texts lines events
 judged_still f a b {gone} {least} {most} {texts} {lines} {events} same h = judged_by f a b gone gone (λ told. answered_still a b gone told same) h
 
 -- what was followed by one course, another one with the same rest has followed
-followed_as : (c d : Course) {gone : List ℕ} {least most : ℕ} {texts : List (List (List ℕ))} {bytes : List ℕ} {events : List Event} → d.rest ≡ c.rest → d.follow ≡ c.follow → IsSameAnswer c.answers d.answers → HasFollowed c gone least most texts bytes events → HasFollowed d gone least most texts bytes events
+followed_as : (c d : Course) {gone : List ℕ} {least : ℕ} {most : Limit} {texts : List (List (List ℕ))} {bytes : List ℕ} {events : List Event} → d.rest ≡ c.rest → d.follow ≡ c.follow → IsSameAnswer c.answers d.answers → HasFollowed c gone least most texts bytes events → HasFollowed d gone least most texts bytes events
 followed_as c d {gone} {least} {most} {texts} {bytes} {events} rest follow same h = record {
   lines = h.lines;
   cut = subst (λ z. AreLinesOf bytes h.lines z.items) (sym rest) h.cut;
@@ -69,7 +70,7 @@ left_behind None rest bytes h = absurd h
 left_behind (Some later) rest bytes h = (later, refl, h)
 
 -- the text at hand has given some bytes, and a course has taken them
-begun_more : (c d : Course) (out rest piece later_rest : List ℕ) (later : List (List ℕ)) (gone : List ℕ) (least most : ℕ) (all : List (List ℕ)) → rest ≡ piece ++ later_rest → TakesBytesFor out c d piece → HasBegun c rest later gone least most all → HasBegun d later_rest later (gone ++ out) least most all
+begun_more : (c d : Course) (out rest piece later_rest : List ℕ) (later : List (List ℕ)) (gone : List ℕ) (least : ℕ) (most : Limit) (all : List (List ℕ)) → rest ≡ piece ++ later_rest → TakesBytesFor out c d piece → HasBegun c rest later gone least most all → HasBegun d later_rest later (gone ++ out) least most all
 begun_more c d out rest piece later_rest later gone least most all parts takes h =
     let more = takes gone least most h.lines h.bytes h.events h.followed in
     record {
@@ -82,7 +83,7 @@ begun_more c d out rest piece later_rest later gone least most all parts takes h
       followed = more.1;
     }
 
-come_more : {R : Type 0} (remaining : R → Option (List ℕ)) (out : List ℕ) (c d : Course) (old new : Option R) (n : ℕ) (piece : List ℕ) (later : List (List ℕ)) (gone : List ℕ) (least most : ℕ) (all : List (List ℕ)) →
+come_more : {R : Type 0} (remaining : R → Option (List ℕ)) (out : List ℕ) (c d : Course) (old new : Option R) (n : ℕ) (piece : List ℕ) (later : List (List ℕ)) (gone : List ℕ) (least : ℕ) (most : Limit) (all : List (List ℕ)) →
     ReadsText remaining old new n piece → 0 < n → TakesBytesFor out c d (take n piece) → HasCome remaining c old later gone least most all → HasCome remaining d new later (gone ++ out) least most all
 come_more remaining out c d None new n piece later gone least most all reads some takes h = absurd (omega (arith, reads.0, some))
 come_more remaining out c d (Some t) None n piece later gone least most all reads some takes h = absurd reads
@@ -101,7 +102,7 @@ goes_on_by_piece remaining out c d old new left n piece reads next some takes go
 }
 
 -- nothing came, since the text at hand is at its end
-come_same : {R : Type 0} (remaining : R → Option (List ℕ)) (c : Course) (old new : Option R) (n : ℕ) (piece : List ℕ) (later : List (List ℕ)) (gone : List ℕ) (least most : ℕ) (all : List (List ℕ)) →
+come_same : {R : Type 0} (remaining : R → Option (List ℕ)) (c : Course) (old new : Option R) (n : ℕ) (piece : List ℕ) (later : List (List ℕ)) (gone : List ℕ) (least : ℕ) (most : Limit) (all : List (List ℕ)) →
     ReadsText remaining old new n piece → n ≡ 0 → HasCome remaining c old later gone least most all → HasCome remaining c new later gone least most all
 come_same remaining c None new n piece later gone least most all reads none h = subst (λ z. HasCome remaining c z later gone least most all) (sym reads.1) h
 come_same remaining c (Some t) None n piece later gone least most all reads none h = absurd reads
@@ -135,7 +136,7 @@ text_is : (a b rest : List ℕ) → rest ≡ [] → a ≡ b ++ rest → b ≡ a
 text_is a b rest none whole = sym (whole ∙ ap (λ z. b ++ z) none ∙ append-nil b)
 
 -- the next text comes to hand
-next_begun : (c d : Course) (bytes : List ℕ) (rest : List ℕ) (text : List ℕ) (later : List (List ℕ)) (gone : List ℕ) (least most : ℕ) (all : List (List ℕ)) → rest ≡ [] → EndsBytes c d → HasBegun c rest (text ∷ later) gone least most all → HasBegun d text later gone least most all
+next_begun : (c d : Course) (bytes : List ℕ) (rest : List ℕ) (text : List ℕ) (later : List (List ℕ)) (gone : List ℕ) (least : ℕ) (most : Limit) (all : List (List ℕ)) → rest ≡ [] → EndsBytes c d → HasBegun c rest (text ∷ later) gone least most all → HasBegun d text later gone least most all
 next_begun c d bytes rest text later gone least most all none ends h =
     let next = ends gone least most h.lines h.bytes h.events h.followed in
     record {
@@ -148,7 +149,7 @@ next_begun c d bytes rest text later gone least most all none ends h =
       followed = next.3;
     }
 
-come_next : {R : Type 0} (remaining : R → Option (List ℕ)) (c d : Course) (old : Option R) (new : R) (text : List ℕ) (later : List (List ℕ)) (gone : List ℕ) (least most : ℕ) (all : List (List ℕ)) →
+come_next : {R : Type 0} (remaining : R → Option (List ℕ)) (c d : Course) (old : Option R) (new : R) (text : List ℕ) (later : List (List ℕ)) (gone : List ℕ) (least : ℕ) (most : Limit) (all : List (List ℕ)) →
     IsReadOut remaining old → EndsAtHand old c d → remaining new ≡ Some text → HasCome remaining c old (text ∷ later) gone least most all → HasCome remaining d (Some new) later gone least most all
 come_next remaining c d None new text later gone least most all out ends known h = (
   text,
@@ -165,7 +166,7 @@ come_next remaining c d None new text later gone least most all out ends known h
 )
 come_next remaining c d (Some t) new text later gone least most all out ends known h = (text, known, next_begun c d [] h.0 text later gone least most all (nothing_left (remaining t) h.0 h.1 out) ends h.2)
 
-come_as : {R : Type 0} (remaining : R → Option (List ℕ)) (c d : Course) (text : Option R) (later : List (List ℕ)) (gone : List ℕ) (least most : ℕ) (all : List (List ℕ)) → d.rest ≡ c.rest → d.follow ≡ c.follow → IsSameAnswer c.answers d.answers → HasCome remaining c text later gone least most all → HasCome remaining d text later gone least most all
+come_as : {R : Type 0} (remaining : R → Option (List ℕ)) (c d : Course) (text : Option R) (later : List (List ℕ)) (gone : List ℕ) (least : ℕ) (most : Limit) (all : List (List ℕ)) → d.rest ≡ c.rest → d.follow ≡ c.follow → IsSameAnswer c.answers d.answers → HasCome remaining c text later gone least most all → HasCome remaining d text later gone least most all
 come_as remaining c d None later gone least most all rest follow same h = (h.0, followed_as c d rest follow same h.1)
 come_as remaining c d (Some t) later gone least most all rest follow same h = (
   h.0,
@@ -227,7 +228,7 @@ pub goes_on_still : {R : Type 0} (remaining : R → Option (List ℕ)) (c : Cour
 goes_on_still remaining c hand left gone least most all h = h
 
 -- all texts have come
-done_by : {R : Type 0} (remaining : R → Option (List ℕ)) (c d : Course) (text : Option R) (until : Until) (later : List (List ℕ)) (gone : List ℕ) (least most : ℕ) (all : List (List ℕ)) →
+done_by : {R : Type 0} (remaining : R → Option (List ℕ)) (c d : Course) (text : Option R) (until : Until) (later : List (List ℕ)) (gone : List ℕ) (least : ℕ) (most : Limit) (all : List (List ℕ)) →
     later ≡ [] → IsReadOut remaining text → IsSome text → EndsAll until c d → HasCome remaining c text later gone least most all → IsDone d until gone least most all
 done_by remaining c d None until later gone least most all none out some ends h = absurd (false≢true some)
 done_by remaining c d (Some t) until later gone least most all none out some ends h =
@@ -249,7 +250,7 @@ done_by remaining c d (Some t) until later gone least most all none out some end
       begun = last.5;
     }
 
-pub all_done : {R : Type 0} (remaining : R → Option (List ℕ)) (c d : Course) (hand : AtHand R) (left : Option (List (List ℕ))) (until : Until) (gone : List ℕ) (least most : ℕ) (all : List (List ℕ)) →
+pub all_done : {R : Type 0} (remaining : R → Option (List ℕ)) (c d : Course) (hand : AtHand R) (left : Option (List (List ℕ))) (until : Until) (gone : List ℕ) (least : ℕ) (most : Limit) (all : List (List ℕ)) →
     IfSome left (λ later. later ≡ []) → IsReadOut remaining hand.text → IsSome hand.text → EndsAll until c d → IsUnderWay remaining c hand left gone least most all → IsDone d until gone least most all
 all_done remaining c d hand left until gone least most all none out some ends h =
     done_by remaining c d hand.text until h.later gone least most all (subst (λ z. IfSome z (λ later. later ≡ [])) h.left_is none) out some ends h.come

@@ -2,8 +2,9 @@
 use Rattle.std.proofs.Common.{◌≡◌, ◌≢◌, ◌≤◌, ◌<◌, ◌⊎◌, ◌++◌, ◌+◌, ◌∙◌, ℕ, Bool, true, false, List, [], ◌∷◌, Option, Some, None, Ok, length, length-append, append_assoc, append-nil, flat_map, map, ap, subst, sym, refl, inl, inr, arith}
 use Rattle.std.proofs.lemmas.Bool.{false≢true}
 use Rattle.std.proofs.lemmas.List.{length-map, map-append}
+use Rattle.snap_core.specs.declared.limit.Limit.{Limit}
 use Rattle.snap_core.specs.declared.event.Event.{Event}
-use Rattle.snap_core.specs.Events.{IsHistory}
+use Rattle.snap_core.specs.Bounded.{IsHistoryBy}
 use Rattle.snap_format.specs.Layout.{is_header_row, is_stamped_header_row}
 use Rattle.snap_format.specs.Rows.{rows_of}
 use Rattle.snap_text.specs.Fields.{Fields, row_event}
@@ -81,17 +82,17 @@ all_before form n m (t ∷ texts) text later turns is all =
     (all.0 ++ rest.0, rest.1, rest.2, all.2 ∙ ap (λ z. all.0 ++ z) rest.3 ∙ sym (append_assoc all.0 rest.0 (rest.1 ++ rest.2)), (all.0, rest.0, refl, all.3, rest.4), rest.5)
 
 -- the text at hand in a recording that can be followed: its lines, with the events before it, of it and after it
-pub record IsAmong (most : ℕ) (earlier : List (List (List ℕ))) (lines : List (List ℕ)) (IsLast : Type 0) : Type 0 where
+pub record IsAmong (most : Limit) (earlier : List (List (List ℕ))) (lines : List (List ℕ)) (IsLast : Type 0) : Type 0 where
   pub before : List Turn
   pub here : List Turn
   pub behind : List Turn
-  pub history : IsHistory (events_of (before ++ (here ++ behind)))
-  pub few : length (before ++ (here ++ behind)) ≤ most
+  pub history : IsHistoryBy most.writers (events_of (before ++ (here ++ behind)))
+  pub few : length (before ++ (here ++ behind)) ≤ most.events
   pub texts_say : AllSpell Plain 0 earlier before
   pub lines_say : Spells Plain (length earlier) (flat_map rows_of lines) here ⊎ ((earlier ≢ []) × (flat_map rows_of lines ≡ []) × (here ≡ []) × IsLast)
 
 -- lines whose records have stamps are not among those
-pub not_stamped : (most : ℕ) (earlier : List (List (List ℕ))) (lines : List (List ℕ)) (IsLast : Type 0) → IsAmong most earlier lines IsLast → HaveStamps (length earlier) lines → ⊥
+pub not_stamped : (most : Limit) (earlier : List (List (List ℕ))) (lines : List (List ℕ)) (IsLast : Type 0) → IsAmong most earlier lines IsLast → HaveStamps (length earlier) lines → ⊥
 not_stamped most earlier lines IsLast among stamps = go among.lines_say
   where
     go : Spells Plain (length earlier) (flat_map rows_of lines) among.here ⊎ ((earlier ≢ []) × (flat_map rows_of lines ≡ []) × (among.here ≡ []) × IsLast) → ⊥
@@ -143,7 +144,7 @@ no_texts : (texts : List (List (List ℕ))) (P : Type 0) → (texts ≢ [] → P
 no_texts [] P some none = none refl
 no_texts (t ∷ texts) P some none = some (λ is. none_ahead t texts (sym is))
 
-pub plain_by : (f : Follow) (least most : ℕ) (earlier : List (List (List ℕ))) (lines all : List (List ℕ)) (rows : List Fields) (events : List Event) (IsLast : Type 0) → flat_map rows_of all ≡ flat_map rows_of lines ++ rows → HasRead f least most earlier lines events → IsAmong most earlier all IsLast → IsPlain f
+pub plain_by : (f : Follow) (least : ℕ) (most : Limit) (earlier : List (List (List ℕ))) (lines all : List (List ℕ)) (rows : List Fields) (events : List Event) (IsLast : Type 0) → flat_map rows_of all ≡ flat_map rows_of lines ++ rows → HasRead f least most earlier lines events → IsAmong most earlier all IsLast → IsPlain f
 plain_by f least most earlier lines all rows events IsLast whole h among is = go h.form_is
   where
     headed : h.form ≡ Stamped → f.headed ≡ true → earlier ≡ [] → SaysSoFar f h.form (length earlier) lines (h.here ++ f.waiting.turns.items) → ⊥
@@ -175,16 +176,16 @@ plain_part f Stamped n texts lines taken here plain (inr (is, unheaded, empty, g
 plain_part f Stamped n texts lines taken here plain (inr (is, unheaded, empty, given)) (inr (h, s)) waits = absurd (false≢true (sym unheaded ∙ h))
 
 -- one more record, of those that say the rest
-next_goes_on : (f : Follow) (n : ℕ) (events more later : List Event) (row : Fields) (rows : List Fields) → IsPlain f → SaysMore f n (row ∷ rows) more → IsHistory (events ++ (more ++ later)) → GoesOn f events (row ∷ [])
+next_goes_on : (f : Follow) (n : ℕ) (events more later : List Event) (row : Fields) (rows : List Fields) → IsPlain f → SaysMore f n (row ∷ rows) more → IsHistoryBy f.judge.most.writers (events ++ (more ++ later)) → GoesOn f events (row ∷ [])
 next_goes_on f n events more later row rows plain (inl (unheaded, turns, is, spells)) history =
     inr (inl (unheaded, plain, row, refl, ap is_header_row (ap (first row) spells.whole) ∙ spells.header))
 next_goes_on f n events more later row rows plain (inr (inl (unheaded, none, nothing))) history = absurd (none_ahead row rows (sym none))
 next_goes_on f n events [] later row rows plain (inr (inr (headed, says))) history = absurd (none_ahead _ _ (sym says))
 next_goes_on f n events (x ∷ more) later row rows plain (inr (inr (headed, says))) history =
-    inr (inr (headed, plain, row, x, refl, ap (first (row_event row)) says, history_front (events ++ x ∷ []) (more ++ later) (subst IsHistory (sym (append_assoc events (x ∷ []) (more ++ later))) history)))
+    inr (inr (headed, plain, row, x, refl, ap (first (row_event row)) says, history_front f.judge.most.writers (events ++ x ∷ []) (more ++ later) (subst (IsHistoryBy f.judge.most.writers) (sym (append_assoc events (x ∷ []) (more ++ later))) history)))
 
 -- the next line of a recording that can be followed goes on with what was read
-goes_on : (f : Follow) (n : ℕ) (events more later : List Event) (line : List ℕ) (rows : List Fields) → IsPlain f → (rows_of line ≡ []) ⊎ ((row : Fields) × (rows_of line ≡ row ∷ [])) → SaysMore f n (rows_of line ++ rows) more → IsHistory (events ++ (more ++ later)) → GoesOn f events (rows_of line)
+goes_on : (f : Follow) (n : ℕ) (events more later : List Event) (line : List ℕ) (rows : List Fields) → IsPlain f → (rows_of line ≡ []) ⊎ ((row : Fields) × (rows_of line ≡ row ∷ [])) → SaysMore f n (rows_of line ++ rows) more → IsHistoryBy f.judge.most.writers (events ++ (more ++ later)) → GoesOn f events (rows_of line)
 goes_on f n events more later line rows plain (inl none) says history = inl none
 goes_on f n events more later line rows plain (inr (row, one)) says history =
     subst (GoesOn f events) (sym one) (next_goes_on f n events more later row rows plain (subst (λ z. SaysMore f n (z ++ rows) more) one says) history)
@@ -204,7 +205,7 @@ event_said f n line rows said (inr (row, is)) event (inr (inr (headed, says))) =
 room_left : (events more later since before : List Event) (most : ℕ) → events ≡ before ++ since → length (events ++ (more ++ later)) ≤ most → most ≤ length since → 0 < length more → ⊥
 room_left events more later since before most parts few full some = omega (arith, few, full, some, ap length parts, length-append before since, length-append events (more ++ later), length-append more later)
 
-pub does_not_stop : (f : Follow) (least most : ℕ) (earlier : List (List (List ℕ))) (lines all : List (List ℕ)) (line : List ℕ) (rows : List Fields) (events : List Event) (IsLast : Type 0) →
+pub does_not_stop : (f : Follow) (least : ℕ) (most : Limit) (earlier : List (List (List ℕ))) (lines all : List (List ℕ)) (line : List ℕ) (rows : List Fields) (events : List Event) (IsLast : Type 0) →
     flat_map rows_of all ≡ flat_map rows_of lines ++ (rows_of line ++ rows) → (rows_of line ≡ []) ⊎ ((row : Fields) × (rows_of line ≡ row ∷ [])) →
     HasRead f least most earlier lines events → IsAmong most earlier all IsLast → StopsAt f line → ⊥
 does_not_stop f least most earlier lines all line rows events IsLast whole one h among stops = go among.lines_say
@@ -227,9 +228,9 @@ does_not_stop f least most earlier lines all line rows events IsLast whole one h
         let is : events_of (among.before ++ (among.here ++ among.behind)) ≡ events ++ (said ++ behind) =
         told ∙ ap (λ z. z ++ (events_of among.here ++ behind)) (sym same) ∙ ap (λ z. events_of h.earlier ++ (z ++ behind)) parts ∙ ap (λ z. events_of h.earlier ++ z) (append_assoc (events_of h.here) said behind)
         ∙ sym (append_assoc (events_of h.earlier) (events_of h.here) (said ++ behind)) ∙ ap (λ z. z ++ (said ++ behind)) (sym (h.said ∙ map-append (λ t. t.event) h.earlier h.here)) in
-        let few : length (events ++ (said ++ behind)) ≤ most = omega (arith, among.few, ap length is, length-map (among.before ++ (among.here ++ among.behind)) (λ t. t.event)) in
-        let stop = stops least most earlier lines events h (goes_on f (length earlier) events said behind line rows plain one says (subst IsHistory is among.history)) in
-        room_left events said behind h.since h.before most h.windows few stop.0 (event_said f (length earlier) line rows said one stop.1 says)
+        let few : length (events ++ (said ++ behind)) ≤ most.events = omega (arith, among.few, ap length is, length-map (among.before ++ (among.here ++ among.behind)) (λ t. t.event)) in
+        let stop = stops least most earlier lines events h (goes_on f (length earlier) events said behind line rows plain one says (subst (λ l. IsHistoryBy l.writers (events ++ (said ++ behind))) (sym h.most_is) (subst (IsHistoryBy most.writers) is among.history))) in
+        room_left events said behind h.since h.before most.events h.windows few stop.0 (event_said f (length earlier) line rows said one stop.1 says)
 
     go : Spells Plain (length earlier) (flat_map rows_of all) among.here ⊎ ((earlier ≢ []) × (flat_map rows_of all ≡ []) × (among.here ≡ []) × IsLast) → ⊥
     go (inl spells) = let next = says_more f (length earlier) lines (rows_of line ++ rows) h.here among.here (flat_map rows_of all) whole part.0 spells in on next.0 next.1 next.2

@@ -4,8 +4,9 @@ use Rattle.std.specs.Prelude.{All}
 use Rattle.std.specs.List.{AllZip}
 use Rattle.std.proofs.lemmas.List.Elements.{All-append, All-cons, All-head, All-tail}
 use Rattle.std.proofs.lemmas.Grind.{flat_map-append}
+use Rattle.snap_core.specs.declared.limit.Limit.{Limit}
 use Rattle.snap_core.specs.declared.event.Event.{Event}
-use Rattle.snap_core.specs.Events.{IsHistory}
+use Rattle.snap_core.specs.Bounded.{IsHistoryBy}
 use Rattle.snap_format.specs.Rows.{rows_of}
 use Rattle.snap_follow.specs.declared.course.Course.{Course}
 use Rattle.snap_follow.specs.declared.run.Until.{Until}
@@ -59,7 +60,7 @@ where_is (d ∷ done) (l ∷ lines) text later [] (m ∷ earlier) last is one tw
 where_is (d ∷ done) (l ∷ lines) text later (b ∷ before) [] last is one two = absurd two
 
 -- the lines of the text at hand in texts that can be followed
-record HasLines (most : ℕ) (until : Until) (earlier : List (List (List ℕ))) (text : List ℕ) (later : List (List ℕ)) : Type 0 where
+record HasLines (most : Limit) (until : Until) (earlier : List (List (List ℕ))) (text : List ℕ) (later : List (List ℕ)) : Type 0 where
   pub lines : List (List ℕ)
   pub rest : List ℕ
   pub cut : ((later ≢ []) × AreAllLines text lines) ⊎ ((later ≡ []) × AreLastLines until text lines rest)
@@ -70,7 +71,7 @@ record HasLines (most : ℕ) (until : Until) (earlier : List (List (List ℕ))) 
 short_nothing : IsShort []
 short_nothing = omega arith
 
-has_lines : (most : ℕ) (until : Until) (done : List (List ℕ)) (lines : List (List (List ℕ))) (text : List ℕ) (later all : List (List ℕ)) → all ≡ done ++ text ∷ later → AllZip AreAllLines done lines → CanBeFollowed most until all → HasLines most until lines text later
+has_lines : (most : Limit) (until : Until) (done : List (List ℕ)) (lines : List (List (List ℕ))) (text : List ℕ) (later all : List (List ℕ)) → all ≡ done ++ text ∷ later → AllZip AreAllLines done lines → CanBeFollowed most until all → HasLines most until lines text later
 has_lines most until done lines text later all parts whole can = go (where_is done lines text later can.cut.before can.earlier can.cut.text (sym parts ∙ can.cut.texts_are) whole can.cut.whole)
   where
     go : IsWhere text later lines can.cut.text can.earlier → HasLines most until lines text later
@@ -84,8 +85,8 @@ has_lines most until done lines text later all parts whole can = go (where_is do
             before = can.say.before;
             here = can.say.here;
             behind = [];
-            history = subst (λ z. IsHistory (events_of z)) parted can.history;
-            few = subst (λ z. length z ≤ most) parted can.few;
+            history = subst (λ z. IsHistoryBy most.writers (events_of z)) parted can.history;
+            few = subst (λ z. length z ≤ most.events) parted can.few;
             texts_say = subst (λ z. AllSpell Plain 0 z can.say.before) same can.say.texts_say;
             lines_say = last_say none same can.say.last_says;
           };
@@ -109,8 +110,8 @@ has_lines most until done lines text later all parts whole can = go (where_is do
             before = all_say.0;
             here = all_say.1;
             behind = all_say.2 ++ can.say.here;
-            history = subst (λ z. IsHistory (events_of z)) parted can.history;
-            few = subst (λ z. length z ≤ most) parted can.few;
+            history = subst (λ z. IsHistoryBy most.writers (events_of z)) parted can.history;
+            few = subst (λ z. length z ≤ most.events) parted can.few;
             texts_say = all_say.4;
             lines_say = inl all_say.5;
           };
@@ -163,7 +164,7 @@ ends_of_last End text lines rest cut short short_rest = ends_of_whole text lines
 ends_of_last Ever text lines rest cut short short_rest = ends_of_cut text lines rest cut short short_rest
 ends_of_last (Idle seconds) text lines rest cut short short_rest = ends_of_cut text lines rest cut short short_rest
 
-ends_of : (most : ℕ) (until : Until) (earlier : List (List (List ℕ))) (text : List ℕ) (later : List (List ℕ)) (a : HasLines most until earlier text later) → HasEnds text a.lines
+ends_of : (most : Limit) (until : Until) (earlier : List (List (List ℕ))) (text : List ℕ) (later : List (List ℕ)) (a : HasLines most until earlier text later) → HasEnds text a.lines
 ends_of most until earlier text later a = go a.cut
   where
     go : ((later ≢ []) × AreAllLines text a.lines) ⊎ ((later ≡ []) × AreLastLines until text a.lines a.rest) → HasEnds text a.lines
@@ -172,7 +173,7 @@ ends_of most until earlier text later a = go a.cut
 
 -- a line of the text at hand does not stop texts that can be followed
 
-line_in : (at : Course) (gone : List ℕ) (least most : ℕ) (until : Until) (earlier : List (List (List ℕ))) (text front line behind rest : List ℕ) (later : List (List ℕ)) (events : List Event) → text ≡ front ++ (line ++ behind) → HasNoEnd line →
+line_in : (at : Course) (gone : List ℕ) (least : ℕ) (most : Limit) (until : Until) (earlier : List (List (List ℕ))) (text front line behind rest : List ℕ) (later : List (List ℕ)) (events : List Event) → text ≡ front ++ (line ++ behind) → HasNoEnd line →
     HasFollowed at gone least most earlier front events → HasLines most until earlier text later → IsTooLong (at.rest.items ++ line) ⊎ (BeginsWithEnd behind × StopsAt at.follow (at.rest.items ++ line)) → ⊥
 line_in at gone least most until earlier text front line behind rest later events parts within h a stops = go behind parts next.2 stops
   where
@@ -201,7 +202,7 @@ line_in at gone least most until earlier text front line behind rest later event
         (ap (flat_map rows_of) lines_are ∙ flat_map-append rows_of h.lines (whole ∷ (line_is.0 ++ ends.more))) (row_of_line whole no_end) h.read.read a.among at_line
 
 -- a piece stops a recording
-pub piece_stops : (c : Course) (piece behind rest : List ℕ) (later : List (List ℕ)) (gone : List ℕ) (least most : ℕ) (until : Until) (all : List (List ℕ)) → rest ≡ piece ++ behind → StopsIn c piece → HasBegun c rest later gone least most all → CanBeFollowed most until all → ⊥
+pub piece_stops : (c : Course) (piece behind rest : List ℕ) (later : List (List ℕ)) (gone : List ℕ) (least : ℕ) (most : Limit) (until : Until) (all : List (List ℕ)) → rest ≡ piece ++ behind → StopsIn c piece → HasBegun c rest later gone least most all → CanBeFollowed most until all → ⊥
 piece_stops c piece behind rest later gone least most until all parts s h can =
     let next = s.taken gone least most h.lines h.bytes h.events h.followed in
     let text_is : h.bytes ++ rest ≡ (h.bytes ++ s.front) ++ (s.line ++ (s.behind ++ behind)) =
@@ -218,7 +219,7 @@ piece_stops c piece behind rest later gone least most until all parts s h can =
     stops_on tail (inr (begins, at)) = inr (begins_on tail begins, at)
 
 -- the last line of a whole text does not stop texts that can be followed
-last_in : (c : Course) (gone : List ℕ) (least most : ℕ) (earlier : List (List (List ℕ))) (text : List ℕ) (lines : List (List ℕ)) (events : List Event) (IsLast : Type 0) →
+last_in : (c : Course) (gone : List ℕ) (least : ℕ) (most : Limit) (earlier : List (List (List ℕ))) (text : List ℕ) (lines : List (List ℕ)) (events : List Event) (IsLast : Type 0) →
     HasFollowed c gone least most earlier text events → AreAllLines text lines → IsAmong most earlier lines IsLast → StopsAt c.follow c.rest.items → ⊥
 last_in c gone least most earlier text lines events IsLast h whole among stops = go whole.all
   where
@@ -235,7 +236,7 @@ last_in c gone least most earlier text lines events IsLast h whole among stops =
         (ap (flat_map rows_of) (is ∙ ap (λ z. z ++ whole.rest ∷ []) same.0 ∙ ap (λ z. h.lines ++ z ∷ []) same.1) ∙ flat_map-append rows_of h.lines (c.rest.items ∷ [])) (row_of_line c.rest.items h.cut.unended) h.read.read among stops
 
 -- lines without a record are none of a text that can be followed, but where it is the last of several
-no_record_in : (most : ℕ) (earlier : List (List (List ℕ))) (lines : List (List ℕ)) (IsLast : Type 0) → IsAmong most earlier lines IsLast → flat_map rows_of lines ≡ [] → (earlier ≢ []) × IsLast
+no_record_in : (most : Limit) (earlier : List (List (List ℕ))) (lines : List (List ℕ)) (IsLast : Type 0) → IsAmong most earlier lines IsLast → flat_map rows_of lines ≡ [] → (earlier ≢ []) × IsLast
 no_record_in most earlier lines IsLast among none = go among.lines_say
   where
     go : Spells Plain (length earlier) (flat_map rows_of lines) among.here ⊎ ((earlier ≢ []) × (flat_map rows_of lines ≡ []) × (among.here ≡ []) × IsLast) → (earlier ≢ []) × IsLast
@@ -246,7 +247,7 @@ text_whole : (bytes rest : List ℕ) → rest ≡ [] → bytes ++ rest ≡ bytes
 text_whole bytes rest none = ap (λ z. bytes ++ z) none ∙ append-nil bytes
 
 -- the end of a text that is not the last one stops a recording
-pub end_stops : (c : Course) (rest : List ℕ) (later : List (List ℕ)) (gone : List ℕ) (least most : ℕ) (until : Until) (all : List (List ℕ)) → rest ≡ [] → later ≢ [] → StopsLast c → HasBegun c rest later gone least most all → CanBeFollowed most until all → ⊥
+pub end_stops : (c : Course) (rest : List ℕ) (later : List (List ℕ)) (gone : List ℕ) (least : ℕ) (most : Limit) (until : Until) (all : List (List ℕ)) → rest ≡ [] → later ≢ [] → StopsLast c → HasBegun c rest later gone least most all → CanBeFollowed most until all → ⊥
 end_stops c rest later gone least most until all none some stops h can = go a.cut stops
   where
     a : HasLines most until h.lines (h.bytes ++ rest) later
@@ -270,13 +271,13 @@ one_last End text r s l m one two = one_whole text l m one.0 two.0
 one_last Ever text r s l m one two = (one_cut text r s l m one two).0
 one_last (Idle seconds) text r s l m one two = (one_cut text r s l m one two).0
 
-rest_in : (until : Until) (c : Course) (gone : List ℕ) (least most : ℕ) (earlier : List (List (List ℕ))) (text : List ℕ) (lines : List (List ℕ)) (rest : List ℕ) (events : List Event) (IsLast : Type 0) →
+rest_in : (until : Until) (c : Course) (gone : List ℕ) (least : ℕ) (most : Limit) (earlier : List (List (List ℕ))) (text : List ℕ) (lines : List (List ℕ)) (rest : List ℕ) (events : List Event) (IsLast : Type 0) →
     HasFollowed c gone least most earlier text events → AreLastLines until text lines rest → IsAmong most earlier lines IsLast → StopsInRest until c → ⊥
 rest_in End c gone least most earlier text lines rest events IsLast h cut among stops = last_in c gone least most earlier text lines events IsLast h cut.0 among stops
 rest_in Ever c gone least most earlier text lines rest events IsLast h cut among stops = stops
 rest_in (Idle seconds) c gone least most earlier text lines rest events IsLast h cut among stops = stops
 
-pub last_stops : (c : Course) (rest : List ℕ) (later : List (List ℕ)) (gone : List ℕ) (least most : ℕ) (until : Until) (all : List (List ℕ)) → rest ≡ [] → later ≡ [] → StopsEnd until c → HasBegun c rest later gone least most all → CanBeFollowed most until all → ⊥
+pub last_stops : (c : Course) (rest : List ℕ) (later : List (List ℕ)) (gone : List ℕ) (least : ℕ) (most : Limit) (until : Until) (all : List (List ℕ)) → rest ≡ [] → later ≡ [] → StopsEnd until c → HasBegun c rest later gone least most all → CanBeFollowed most until all → ⊥
 last_stops c rest later gone least most until all none last stops h can = go a.cut stops
   where
     a : HasLines most until h.lines (h.bytes ++ rest) later

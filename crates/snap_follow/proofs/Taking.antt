@@ -7,6 +7,7 @@ use Rattle.std.proofs.lemmas.List.{get_or-take, length-take, map-append, take-ap
 use Rattle.std.proofs.lemmas.List.Elements.{All-append, All-from_get_or}
 use Rattle.std.proofs.lemmas.List.Concat.{flat_map-append}
 use Rattle.memchr.specs.Find.{IsFirstByte, is_byte2}
+use Rattle.snap_core.specs.declared.limit.Limit.{Limit}
 use Rattle.snap_core.specs.declared.event.Event.{Event}
 use Rattle.snap_follow.specs.declared.answers.Answers.{Answers}
 use Rattle.snap_follow.specs.declared.course.Course.{Course}
@@ -66,7 +67,7 @@ takes_line c d front end within ends none reads gone least most texts bytes even
         ∙ sym (append-nil (flat_map (λ l. l.line ++ l.end ∷ []) (h.cut.each ++ one ∷ [])))
 
 -- what was judged of one course, another one with the same answers has judged
-pub judged_as : (f g : Follow) (a b : Answers) {gone : List ℕ} {least most : ℕ} {texts : List (List (List ℕ))} {lines : List (List ℕ)} {events : List Event} → g ≡ f → b ≡ a → HasJudged f a gone least most texts lines events → HasJudged g b gone least most texts lines events
+pub judged_as : (f g : Follow) (a b : Answers) {gone : List ℕ} {least : ℕ} {most : Limit} {texts : List (List (List ℕ))} {lines : List (List ℕ)} {events : List Event} → g ≡ f → b ≡ a → HasJudged f a gone least most texts lines events → HasJudged g b gone least most texts lines events
 judged_as f g a b {gone} {least} {most} {texts} {lines} {events} same kept h = subst (λ z. HasJudged z b gone least most texts lines events) (sym same) (subst (λ z. HasJudged f z gone least most texts lines events) (sym kept) h)
 
 -- bytes within which no line ends
@@ -182,7 +183,7 @@ last_more c d e last more gone least most texts bytes events h =
     (all.0, all.1 ++ next.0, all.2, subst (λ z. HasJudged e.follow e.answers gone least most texts z (events ++ (all.1 ++ next.0))) (append-nil all.0) (subst (HasJudged e.follow e.answers gone least most texts (all.0 ++ [])) (append_assoc events all.1 next.0) next.1))
 
 -- what waits has a stamp
-pub waits_stamped : (f : Follow) (least most : ℕ) (texts : List (List (List ℕ))) (lines : List (List ℕ)) (events : List Event) → HasRead f least most texts lines events → HasWaiting f → HaveStamps (length texts) lines
+pub waits_stamped : (f : Follow) (least : ℕ) (most : Limit) (texts : List (List (List ℕ))) (lines : List (List ℕ)) (events : List Event) → HasRead f least most texts lines events → HasWaiting f → HaveStamps (length texts) lines
 waits_stamped f least most texts lines events h some = go h.form (h.here ++ f.waiting.turns.items) (λ none. some (both_none h.here f.waiting.turns.items none).1) h.lines_say h.waiting
   where
     go : (form : Form) (turns : List Turn) → (turns ≡ [] → ⊥) → SaysSoFar f form (length texts) lines turns → AreWaiting form f (h.earlier ++ h.here) → HaveStamps (length texts) lines
@@ -210,7 +211,7 @@ text_done c d e last ends nothing none kept gone least most texts bytes events h
           read = next.0;
           in_time = λ quiet. subst (λ z. (length z < least) ⊎ (z ≡ [])) (sym next.2) (all.3.in_time quiet);
           first = subst (λ z. EndsFirst least z next.0.since) (sym next.1) (subst (EndsFirst least all.3.read.before) (sym next.2) all.3.first);
-          told = subst (λ z. HasTold z gone least next.0.places next.0.before) (sym kept) (subst (λ z. HasTold d.answers gone least z next.0.before) (sym next.3) (subst (HasTold d.answers gone least all.3.read.places) (sym next.1) all.3.told));
+          told = subst (λ z. HasTold z gone least most next.0.places next.0.before) (sym kept) (subst (λ z. HasTold d.answers gone least most z next.0.before) (sym next.3) (subst (HasTold d.answers gone least most all.3.read.places) (sym next.1) all.3.told));
         };
       },
     )
@@ -224,7 +225,7 @@ nothing_before : (before since : List Event) → [] ≡ before ++ since → befo
 nothing_before [] since none = refl
 nothing_before (x ∷ before) since none = absurd (omega (arith, ap length none))
 
-pub none_followed : (c : Course) (least most : ℕ) → c.rest.items ≡ [] → HasRead c.follow least most [] [] [] → HasAnswered c.answers [] [] → HasFollowed c [] least most [] [] []
+pub none_followed : (c : Course) (least : ℕ) (most : Limit) → c.rest.items ≡ [] → HasRead c.follow least most [] [] [] → HasAnswered c.answers [] [] → HasFollowed c [] least most [] [] []
 none_followed c least most none read answered = record {
   lines = [];
   cut = no_lines c none;
@@ -232,7 +233,7 @@ none_followed c least most none read answered = record {
     read = read;
     in_time = λ quiet. inr (nothing_since read.before read.since read.windows);
     first = subst (EndsFirst least read.before) (sym (nothing_since read.before read.since read.windows)) (none_first least read.before);
-    told = subst (HasTold c.answers [] least read.places) (sym (nothing_before read.before read.since read.windows)) (none_told c.answers least read.places answered);
+    told = subst (HasTold c.answers [] least most read.places) (sym (nothing_before read.before read.since read.windows)) (none_told c.answers least most read.places answered);
   };
 }
 

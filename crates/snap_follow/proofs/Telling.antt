@@ -1,6 +1,7 @@
 -- What was answered of the windows, with one window more.
 use Rattle.std.proofs.Common.{◌≡◌, ◌≢◌, ◌≤◌, ◌<◌, ◌+◌, ◌⊎◌, ◌++◌, ◌∙◌, ℕ, List, [], ◌∷◌, append-nil, arith, ap, inl, inr, length, length-append, refl, subst, sym}
 use Rattle.std.proofs.lemmas.List.Concat.{flat_map-append}
+use Rattle.snap_core.specs.declared.limit.Limit.{Limit}
 use Rattle.snap_core.specs.declared.event.Event.{Event}
 use Rattle.snap_theory.specs.Windows.{IsQuiet}
 use Rattle.snap_windows.specs.Verdicts.{IsVerdict}
@@ -79,36 +80,36 @@ events_more : (told : List Told) (t : Told) (before since : List Event) → even
 events_more told t before since b s = flat_map-append (λ x. x.events) told (t ∷ []) ∙ ap (λ z. events_of told ++ z) (append-nil t.events ∙ s) ∙ ap (λ z. z ++ since) b
 
 -- what is so of a window that was found is so of it where it was written
-told_after : (least : ℕ) (stands : List Place) (told : List Told) (t : Told) (before since : List Event) (window : Window) → t.window ≡ window → t.events ≡ since → t.number ≡ stop (length told + 1) → events_of told ≡ before →
-    IsSpanOf window.span since → IsSpanIn window.span stands (length before) (length since) → AreMissed stands before since window.span.missed → IsVerdict window.verdict before since → EndsFirst least before since → (0 < least → since ≢ []) → IsToldAfter least stands told t
-told_after least stands told t before since window w e n b span places missed verdict first some = record {
+told_after : (least : ℕ) (most : Limit) (stands : List Place) (told : List Told) (t : Told) (before since : List Event) (window : Window) → t.window ≡ window → t.events ≡ since → t.number ≡ stop (length told + 1) → events_of told ≡ before →
+    IsSpanOf window.span since → IsSpanIn window.span stands (length before) (length since) → AreMissed stands before since window.span.missed → IsVerdict most.writers window.verdict before since → EndsFirst least before since → (0 < least → since ≢ []) → IsToldAfter least most stands told t
+told_after least most stands told t before since window w e n b span places missed verdict first some = record {
   number = n;
   span = subst (λ z. IsSpanOf z.span t.events) (sym w) (subst (IsSpanOf window.span) (sym e) span);
   places = subst (λ z. IsSpanIn z.span stands (length (events_of told)) (length t.events)) (sym w) (subst (λ z. IsSpanIn window.span stands (length z) (length t.events)) (sym b) (subst (λ z. IsSpanIn window.span stands (length before) (length z)) (sym e) places));
   missed = subst (λ z. AreMissed stands (events_of told) t.events z.span.missed) (sym w) (subst (λ z. AreMissed stands z t.events window.span.missed) (sym b) (subst (λ z. AreMissed stands before z window.span.missed) (sym e) missed));
-  verdict = subst (λ z. IsVerdict z.verdict (events_of told) t.events) (sym w) (subst (λ z. IsVerdict window.verdict z t.events) (sym b) (subst (IsVerdict window.verdict before) (sym e) verdict));
+  verdict = subst (λ z. IsVerdict most.writers z.verdict (events_of told) t.events) (sym w) (subst (λ z. IsVerdict most.writers window.verdict z t.events) (sym b) (subst (IsVerdict most.writers window.verdict before) (sym e) verdict));
   first = subst (λ z. EndsFirst least z t.events) (sym b) (subst (EndsFirst least before) (sym e) first);
   some = λ lt none. some lt (sym e ∙ none);
 }
 
 -- a window that has ended was answered
-window_told : (a b : Answers) (gone : List ℕ) (least : ℕ) (stands : List Place) (before since : List Event) (window : Window) → HasTold a gone least stands before → AddsWindow a b window →
-    IsSpanOf window.span since → IsSpanIn window.span stands (length before) (length since) → AreMissed stands before since window.span.missed → IsVerdict window.verdict before since → EndsFirst least before since → HasEnded least before since → HasTold b gone least stands (before ++ since)
-window_told a b gone least stands before since window h adds span places missed verdict first ended =
+window_told : (a b : Answers) (gone : List ℕ) (least : ℕ) (most : Limit) (stands : List Place) (before since : List Event) (window : Window) → HasTold a gone least most stands before → AddsWindow a b window →
+    IsSpanOf window.span since → IsSpanIn window.span stands (length before) (length since) → AreMissed stands before since window.span.missed → IsVerdict most.writers window.verdict before since → EndsFirst least before since → HasEnded least before since → HasTold b gone least most stands (before ++ since)
+window_told a b gone least most stands before since window h adds span places missed verdict first ended =
     let next = adds gone h.told since span h.answered in
     record {
       told = h.told ++ next.0 ∷ [];
       answered = next.4;
       all = events_more h.told next.0 before since h.all next.2;
-      each = each_more (λ front x. IsToldAfter least stands front x) h.told next.0 h.each
-          (told_after least stands h.told next.0 before since window next.1 next.2 next.3 h.all span places missed verdict first (λ some none. omega (arith, ended.0, some, ap length none)));
+      each = each_more (λ front x. IsToldAfter least most stands front x) h.told next.0 h.each
+          (told_after least most stands h.told next.0 before since window next.1 next.2 next.3 h.all span places missed verdict first (λ some none. omega (arith, ended.0, some, ap length none)));
       ended = each_more (λ front x. HasEnded least (events_of front) x.events) h.told next.0 h.ended
           (subst (λ z. HasEnded least z next.0.events) (sym h.all) (subst (HasEnded least before) (sym next.2) ended));
     }
 
 -- what was told stays so once the places have grown
-pub told_grown : (a : Answers) (gone : List ℕ) (least : ℕ) (all new : List Place) (before : List Event) → Grows all new → HasTold a gone least all before → HasTold a gone least new before
-told_grown a gone least all new before grows h = record {
+pub told_grown : (a : Answers) (gone : List ℕ) (least : ℕ) (most : Limit) (all new : List Place) (before : List Event) → Grows all new → HasTold a gone least most all before → HasTold a gone least most new before
+told_grown a gone least most all new before grows h = record {
   told = h.told;
   answered = h.answered;
   all = h.all;
@@ -127,8 +128,8 @@ told_grown a gone least all new before grows h = record {
 }
 
 -- no window was answered so far
-pub none_told : (a : Answers) (least : ℕ) (stands : List Place) → HasAnswered a [] [] → HasTold a [] least stands []
-none_told a least stands answered = record {
+pub none_told : (a : Answers) (least : ℕ) (most : Limit) (stands : List Place) → HasAnswered a [] [] → HasTold a [] least most stands []
+none_told a least most stands answered = record {
   told = [];
   answered = answered;
   all = refl;
@@ -138,15 +139,15 @@ none_told a least stands answered = record {
 
 -- lines were read, and a window ended after them
 pub cut_then : (c d : Course) (g : Follow) (added : List (List ℕ)) (window : Window) → ReadsMore c.follow g added →
-    ((least most : ℕ) (texts : List (List (List ℕ))) (lines : List (List ℕ)) (events : List Event) (h : HasRead g least most texts lines events) → (n : HasRead d.follow least most texts lines events) × (n.before ≡ h.before ++ h.since) × (n.since ≡ []) × (n.places ≡ h.places)) →
-    ((least most : ℕ) (texts : List (List (List ℕ))) (lines : List (List ℕ)) (events : List Event) (h : HasRead g least most texts lines events) → IsVerdict window.verdict h.before h.since) →
-    ((least most : ℕ) (texts : List (List (List ℕ))) (lines : List (List ℕ)) (events : List Event) (h : HasRead g least most texts lines events) → least ≤ length h.since) →
+    ((least : ℕ) (most : Limit) (texts : List (List (List ℕ))) (lines : List (List ℕ)) (events : List Event) (h : HasRead g least most texts lines events) → (n : HasRead d.follow least most texts lines events) × (n.before ≡ h.before ++ h.since) × (n.since ≡ []) × (n.places ≡ h.places)) →
+    ((least : ℕ) (most : Limit) (texts : List (List (List ℕ))) (lines : List (List ℕ)) (events : List Event) (h : HasRead g least most texts lines events) → IsVerdict most.writers window.verdict h.before h.since) →
+    ((least : ℕ) (most : Limit) (texts : List (List (List ℕ))) (lines : List (List ℕ)) (events : List Event) (h : HasRead g least most texts lines events) → least ≤ length h.since) →
     window.span ≡ g.span → AddsWindow c.answers d.answers window → TakesLines c d added
 cut_then c d g added window reads ends verdict enough span adds gone least most texts lines events h =
     let read = reads least most texts lines events h.read in
     let r = read.2 in
     let next = ends least most texts (lines ++ added) (events ++ read.0) r in
-    let told = told_grown c.answers gone least h.read.places r.places h.read.before (grows_by h.read.places r.places read.5 read.6) h.told in
+    let told = told_grown c.answers gone least most h.read.places r.places h.read.before (grows_by h.read.places r.places read.5 read.6) h.told in
     let first : EndsFirst least r.before r.since =
     subst (λ z. EndsFirst least z r.since) (sym read.3) (subst (EndsFirst least h.read.before) (sym read.4) (first_more least events h.read.before h.read.since read.0 read.1 h.read.windows h.in_time h.first)) in (
       read.0,
@@ -154,8 +155,8 @@ cut_then c d g added window reads ends verdict enough span adds gone least most 
         read = next.0;
         in_time = λ quiet. inr next.2;
         first = subst (EndsFirst least next.0.before) (sym next.2) (none_first least next.0.before);
-        told = subst (λ z. HasTold d.answers gone least z next.0.before) (sym next.3) (subst (HasTold d.answers gone least r.places) (sym next.1)
-            (window_told c.answers d.answers gone least r.places r.before r.since window (subst (HasTold c.answers gone least r.places) (sym read.3) told) adds
+        told = subst (λ z. HasTold d.answers gone least most z next.0.before) (sym next.3) (subst (HasTold d.answers gone least most r.places) (sym next.1)
+            (window_told c.answers d.answers gone least most r.places r.before r.since window (subst (HasTold c.answers gone least most r.places) (sym read.3) told) adds
             (subst (λ z. IsSpanOf z r.since) (sym span) r.span_is) (subst (λ z. IsSpanIn z r.places (length r.before) (length r.since)) (sym span) r.span_in) (subst (λ z. AreMissed r.places r.before r.since z.missed) (sym span) r.missed)
             (verdict least most texts (lines ++ added) (events ++ read.0) r) first
             (enough least most texts (lines ++ added) (events ++ read.0) r, subst IsQuiet next.1 next.0.taken.quiet)));
@@ -164,7 +165,7 @@ cut_then c d g added window reads ends verdict enough span adds gone least most 
 
 -- or none could end there
 pub none_then : (c d : Course) (g : Follow) (added : List (List ℕ)) → ReadsMore c.follow g added → d.follow ≡ g → d.answers ≡ c.answers →
-    ((least most : ℕ) (texts : List (List (List ℕ))) (lines : List (List ℕ)) (events : List Event) (r : HasRead g least most texts lines events) → IsQuiet events → length r.since < least) → TakesLines c d added
+    ((least : ℕ) (most : Limit) (texts : List (List (List ℕ))) (lines : List (List ℕ)) (events : List Event) (r : HasRead g least most texts lines events) → IsQuiet events → length r.since < least) → TakesLines c d added
 none_then c d g added reads same kept short gone least most texts lines events h =
     let read = reads least most texts lines events h.read in
     let r = read.2 in
@@ -175,8 +176,8 @@ none_then c d g added reads same kept short gone least most texts lines events h
         read = r;
         in_time = λ quiet. inl (short least most texts (lines ++ added) (events ++ read.0) r quiet);
         first = first;
-        told = subst (HasTold c.answers gone least r.places) (sym read.3)
-            (told_grown c.answers gone least h.read.places r.places h.read.before (grows_by h.read.places r.places read.5 read.6) h.told);
+        told = subst (HasTold c.answers gone least most r.places) (sym read.3)
+            (told_grown c.answers gone least most h.read.places r.places h.read.before (grows_by h.read.places r.places read.5 read.6) h.told);
       })),
     )
 
@@ -185,8 +186,8 @@ no_last : (since : List Event) (n : ℕ) → n ≡ stop (length since) → n ≡
 no_last since n is none = no_events since (omega (arith, is, none))
 
 pub all_told : (f : Follow) (a b : Answers) (window : Window) → window.span ≡ f.span →
-    ((least most : ℕ) (texts : List (List (List ℕ))) (lines : List (List ℕ)) (events : List Event) (h : HasRead f least most texts lines events) → IsVerdict window.verdict h.before h.since) →
-    AddsLast a b window → (gone : List ℕ) (least most : ℕ) (texts : List (List (List ℕ))) (lines : List (List ℕ)) (events : List Event) (h : HasJudged f a gone least most texts lines events) → HasToldAll b gone least h.read.places events
+    ((least : ℕ) (most : Limit) (texts : List (List (List ℕ))) (lines : List (List ℕ)) (events : List Event) (h : HasRead f least most texts lines events) → IsVerdict most.writers window.verdict h.before h.since) →
+    AddsLast a b window → (gone : List ℕ) (least : ℕ) (most : Limit) (texts : List (List (List ℕ))) (lines : List (List ℕ)) (events : List Event) (h : HasJudged f a gone least most texts lines events) → HasToldAll b gone least most h.read.places events
 all_told f a b window span verdict adds gone least most texts lines events h = go adds
   where
     spans : IsSpanOf window.span h.read.since
@@ -195,7 +196,7 @@ all_told f a b window span verdict adds gone least most texts lines events h = g
     places : IsSpanIn window.span h.read.places (length h.read.before) (length h.read.since)
     places = subst (λ z. IsSpanIn z h.read.places (length h.read.before) (length h.read.since)) (sym span) h.read.span_in
 
-    go : AddsLast a b window → HasToldAll b gone least h.read.places events
+    go : AddsLast a b window → HasToldAll b gone least most h.read.places events
     go (inl (none, same)) =
         let since : h.read.since ≡ [] = no_last h.read.since window.span.events spans.events_are none in
         record {
@@ -214,8 +215,8 @@ all_told f a b window span verdict adds gone least most texts lines events h = g
           answered = next.4;
           windows = record {
             all = events_more h.told.told next.0 h.read.before h.read.since h.told.all next.2 ∙ sym h.read.windows;
-            each = each_more (λ front x. IsToldAfter least h.read.places front x) h.told.told next.0 h.told.each
-                (told_after least h.read.places h.told.told next.0 h.read.before h.read.since window next.1 next.2 next.3 h.told.all spans places (subst (λ z. AreMissed h.read.places h.read.before h.read.since z.missed) (sym span) h.read.missed) (verdict least most texts lines events h.read) h.first
+            each = each_more (λ front x. IsToldAfter least most h.read.places front x) h.told.told next.0 h.told.each
+                (told_after least most h.read.places h.told.told next.0 h.read.before h.read.since window next.1 next.2 next.3 h.told.all spans places (subst (λ z. AreMissed h.read.places h.read.before h.read.since z.missed) (sym span) h.read.missed) (verdict least most texts lines events h.read) h.first
                 (λ lt none. omega (arith, some, spans.events_are, ap length none)));
             ended = each_but_last (λ front x. HasEnded least (events_of front) x.events) h.told.told next.0 h.told.ended;
           };

@@ -1,9 +1,10 @@
 -- What the lines of a recording say.
 use Rattle.std.specs.Prelude.{⊤, ℕ, true, false, not, List, [], ◌∷◌, ◌++◌, ◌+◌, ◌-◌, ◌^◌, min, ◌≡◌, ◌≢◌, ◌⊎◌, ◌↔◌, ◌≤◌, ◌<◌, Ok, Option, Some, None, slice_index_or, count_by, flat_map, length}
+use Rattle.snap_core.specs.declared.limit.Limit.{Limit}
 use Rattle.snap_core.specs.declared.event.Event.{Event}
 use Rattle.snap_core.specs.Calls.{calls_of}
-use Rattle.snap_core.specs.Events.{IsHistory}
-use Rattle.snap_core.specs.Orders.{IsAtomic}
+use Rattle.snap_core.specs.Bounded.{IsHistoryBy}
+use Rattle.snap_core.specs.declared.writers.Writers.{Writers}
 use Rattle.snap_core.specs.Refusals.{is_begin}
 use Rattle.snap_core.specs.Regular.{IsRegular}
 use Rattle.snap_format.specs.Layout.{is_header_row}
@@ -22,6 +23,7 @@ use Rattle.snap_follow.specs.declared.form.Form.TheVariants.{Plain, Stamped}
 use Rattle.snap_follow.specs.declared.span.Place.{Place}
 use Rattle.snap_follow.specs.declared.waiting.Turn.{Turn}
 use Rattle.snap_text.specs.declared.fault.TextFault.TheVariants.{Repeated, TooMany}
+use Rattle.snap_theory.specs.Versions.{IsAtomicBy}
 use Rattle.snap_theory.specs.Windows.{IsQuiet}
 use Rattle.snap_windows.specs.Taken.{HasTaken}
 use Rattle.snap_windows.specs.declared.judge.WindowJudge.{WindowJudge}
@@ -59,10 +61,10 @@ abbrev pub IsNext : Place → Place → Type 0
 IsNext place next = (next.text ≡ place.text) × (next.number ≡ min (place.number + 1) (2 ^ 64 - 1))
 
 -- a recording was followed so far: the records of some whole texts, and of the lines of the text at hand, spell these events, and those
--- that wait. Its judge has taken them. A window ends from `least` events on, and has at most `most`
-pub record HasRead (follow : Follow) (least most : ℕ) (texts : List (List (List ℕ))) (lines : List (List ℕ)) (events : List Event) : Type 0 where
+-- that wait. Its judge has taken them. A window ends from `least` events on, and `most` is its limit
+pub record HasRead (follow : Follow) (least : ℕ) (most : Limit) (texts : List (List (List ℕ))) (lines : List (List ℕ)) (events : List Event) : Type 0 where
   pub least_is : follow.least ≡ least
-  pub most_is : follow.judge.most.events ≡ most
+  pub most_is : follow.judge.most ≡ most
   -- no more calls count as open than are open
   pub opened : follow.open_calls ≤ open_after events
   pub before : List Event
@@ -88,7 +90,7 @@ pub record HasRead (follow : Follow) (least most : ℕ) (texts : List (List (Lis
 
 -- lines more were read: the judge was given nothing more, or one event of the window at hand
 abbrev pub ReadsMore : Follow → Follow → List (List ℕ) → Type 0
-ReadsMore old new added = (least most : ℕ) (texts : List (List (List ℕ))) (lines : List (List ℕ)) (events : List Event) (h : HasRead old least most texts lines events) →
+ReadsMore old new added = (least : ℕ) (most : Limit) (texts : List (List (List ℕ))) (lines : List (List ℕ)) (events : List Event) (h : HasRead old least most texts lines events) →
     (more : List Event) × (length more ≤ 1) × (n : HasRead new least most texts (lines ++ added) (events ++ more)) × (n.before ≡ h.before) × (n.since ≡ h.since ++ more) × (places : List Place) × (n.places ≡ h.places ++ places)
 
 abbrev pub ReadsLine : Follow → Follow → List ℕ → Type 0
@@ -106,7 +108,7 @@ IsPlain follow = follow.form ≢ Some Stamped
 -- one was, they are one record that spells an event with which the events are a history
 abbrev pub GoesOn : Follow → List Event → List Fields → Type 0
 GoesOn follow events rows = (rows ≡ []) ⊎ (((follow.headed ≡ false) × IsPlain follow × (head : Fields) × (rows ≡ head ∷ []) × (is_header_row head ≡ true))
-    ⊎ ((follow.headed ≡ true) × IsPlain follow × (row : Fields) × (x : Event) × (rows ≡ row ∷ []) × (row_event row ≡ Ok x) × IsHistory (events ++ x ∷ [])))
+    ⊎ ((follow.headed ≡ true) × IsPlain follow × (row : Fields) × (x : Event) × (rows ≡ row ∷ []) × (row_event row ≡ Ok x) × IsHistoryBy follow.judge.most.writers (events ++ x ∷ [])))
 
 -- the window of these events has as many as it may have, or memory ran out
 abbrev pub IsLack : WindowJudge → List Event → Ended → Type 0
@@ -120,7 +122,7 @@ AreEvents follow rows = (follow.headed ≡ true) × (rows ≢ [])
 
 -- a line that goes on with the recording is refused for such a lack alone, and one without an event only if memory ran out
 abbrev pub RefusesLine : Follow → List ℕ → Ended → Type 0
-RefusesLine old line why = (least most : ℕ) (texts : List (List (List ℕ))) (lines : List (List ℕ)) (events : List Event) (h : HasRead old least most texts lines events) →
+RefusesLine old line why = (least : ℕ) (most : Limit) (texts : List (List (List ℕ))) (lines : List (List ℕ)) (events : List Event) (h : HasRead old least most texts lines events) →
     GoesOn old events (rows_of line) → IsLack old.judge h.since why × ((why ≡ Memory) ⊎ AreEvents old (rows_of line))
 
 -- a stamp is not above the last that the judge was given
@@ -148,12 +150,12 @@ WaitsWithin old new = (new.late ≡ old.late) × (length old.waiting.turns.items
 
 -- a line stops a recording: it does not go on with it, or the window at hand has no room for its event
 abbrev pub StopsAt : Follow → List ℕ → Type 0
-StopsAt follow line = (least most : ℕ) (texts : List (List (List ℕ))) (lines : List (List ℕ)) (events : List Event) (h : HasRead follow least most texts lines events) →
-    GoesOn follow events (rows_of line) → (most ≤ length h.since) × AreEvents follow (rows_of line)
+StopsAt follow line = (least : ℕ) (most : Limit) (texts : List (List (List ℕ))) (lines : List (List ℕ)) (events : List Event) (h : HasRead follow least most texts lines events) →
+    GoesOn follow events (rows_of line) → (most.events ≤ length h.since) × AreEvents follow (rows_of line)
 
 -- the text at hand has no record so far
 abbrev pub HasNoRecord : Follow → Type 0
-HasNoRecord follow = (least most : ℕ) (texts : List (List (List ℕ))) (lines : List (List ℕ)) (events : List Event) → HasRead follow least most texts lines events → flat_map rows_of lines ≡ []
+HasNoRecord follow = (least : ℕ) (most : Limit) (texts : List (List (List ℕ))) (lines : List (List ℕ)) (events : List Event) → HasRead follow least most texts lines events → flat_map rows_of lines ≡ []
 
 -- no window is overdue: if no call is open after these events, the window at hand has fewer than `least` of them, or none
 abbrev pub IsInTime : ℕ → List Event → List Event → Type 0
@@ -161,11 +163,11 @@ IsInTime least events since = IsQuiet events → (length since < least) ⊎ (sin
 
 -- the text at hand has ended, of which nothing waits, and the next one begins, in the same window
 abbrev pub EndsText : Follow → Follow → Type 0
-EndsText old new = (least most : ℕ) (texts : List (List (List ℕ))) (lines : List (List ℕ)) (events : List Event) (h : HasRead old least most texts lines events) → old.waiting.turns.items ≡ [] →
+EndsText old new = (least : ℕ) (most : Limit) (texts : List (List (List ℕ))) (lines : List (List ℕ)) (events : List Event) (h : HasRead old least most texts lines events) → old.waiting.turns.items ≡ [] →
     (n : HasRead new least most (texts ++ lines ∷ []) [] events) × (n.before ≡ h.before) × (n.since ≡ h.since) × (n.places ≡ h.places)
 
--- the exit status of a recording of these events
-pub record IsStatusOf (events : List Event) (code : ℕ) : Type 0 where
-  pub atomic : code ≡ 0 ↔ IsAtomic (calls_of events)
-  pub only_regular : code ≡ 1 ↔ IsRegular (calls_of events) × ¬ IsAtomic (calls_of events)
-  pub neither : code ≡ 2 ↔ ¬ IsRegular (calls_of events) × ¬ IsAtomic (calls_of events)
+-- the exit status of a recording of these events; where a component has many writers, it is atomic by their versions
+pub record IsStatusOf (writers : Writers) (events : List Event) (code : ℕ) : Type 0 where
+  pub atomic : code ≡ 0 ↔ IsAtomicBy writers (calls_of events)
+  pub only_regular : code ≡ 1 ↔ IsRegular (calls_of events) × ¬ IsAtomicBy writers (calls_of events)
+  pub neither : code ≡ 2 ↔ ¬ IsRegular (calls_of events) × ¬ IsAtomicBy writers (calls_of events)

@@ -3,7 +3,8 @@ use Rattle.std.specs.Prelude.{ℕ, Bool, List, [], ◌∷◌, ◌++◌, ◌≡�
 use Rattle.std.specs.List.{AllZip}
 use Rattle.std.specs.Io.KnownBytes.{Appends}
 use Rattle.snap_core.specs.declared.event.Event.{Event}
-use Rattle.snap_core.specs.Events.{IsHistory}
+use Rattle.snap_core.specs.declared.limit.Limit.{Limit}
+use Rattle.snap_core.specs.Bounded.{IsHistoryBy}
 use Rattle.snap_format.specs.Rows.{rows_of}
 use Rattle.snap_follow.specs.Bytes.{AreAllLines, AreLinesOf}
 use Rattle.snap_follow.specs.Followed.{AllSpell, IsStatusOf}
@@ -59,15 +60,15 @@ abbrev pub IsShort : List ℕ → Type 0
 IsShort line = length line ≤ RECORD_LIMIT
 
 -- texts are a recording without stamps, of a history of at most as many events as a window may have, in lines that may be records
-pub record CanBeFollowed (most : ℕ) (until : Until) (texts : List (List ℕ)) : Type 0 where
+pub record CanBeFollowed (most : Limit) (until : Until) (texts : List (List ℕ)) : Type 0 where
   pub earlier : List (List (List ℕ))
   pub last : List (List ℕ)
   pub rest : List ℕ
   pub turns : List Turn
   pub cut : AreCut until texts earlier last rest
   pub say : AllSay Plain earlier last turns
-  pub history : IsHistory (events_of turns)
-  pub few : length turns ≤ most
+  pub history : IsHistoryBy most.writers (events_of turns)
+  pub few : length turns ≤ most.events
   pub short_before : All (All IsShort) earlier
   pub short : All IsShort last
   pub short_rest : IsShort rest
@@ -75,7 +76,7 @@ pub record CanBeFollowed (most : ℕ) (until : Until) (texts : List (List ℕ)) 
 -- the exit status is that of the events of a recording, or 3 if it can't be followed
 abbrev pub IsCodeOf : FollowOptions → List (List ℕ) → Bool → ℕ → Type 0
 IsCodeOf asked texts has_rest code =
-    ((events : List Event) × IsRecording asked.until texts has_rest events × IsStatusOf events code) ⊎ ((code ≡ 3) × ¬ CanBeFollowed asked.most.events asked.until texts)
+    ((events : List Event) × IsRecording asked.until texts has_rest events × IsStatusOf asked.most.writers events code) ⊎ ((code ≡ 3) × ¬ CanBeFollowed asked.most asked.until texts)
 
 -- texts were followed, and all of them were there
 abbrev pub AreFollowed : FollowOptions → List (List ℕ) → Followed → Type 0
@@ -87,10 +88,10 @@ pub record HasWritten (asked : FollowOptions) (texts : List (List ℕ)) (followe
   pub events : List Event
   pub recording : IsRecording asked.until texts followed.has_rest events
   pub told : List Told
-  pub windows : AreWindowsOf asked.least (places_of recording.turns) events told
+  pub windows : AreWindowsOf asked.least asked.most (places_of recording.turns) events told
   pub wrote : Appends old new (flat_map line_of told ++ sums_text told)
   pub few : followed.code ≡ None ↔ views_of told < asked.views
 
 -- texts were followed, all of them were there, and their windows were written, or they can't be followed
 abbrev pub AreWritten : FollowOptions → List (List ℕ) → Followed → Option (List ℕ) → Option (List ℕ) → Type 0
-AreWritten asked texts followed old new = followed.lost ≡ None → HasWritten asked texts followed old new ⊎ ((followed.code ≡ Some 3) × ¬ CanBeFollowed asked.most.events asked.until texts)
+AreWritten asked texts followed old new = followed.lost ≡ None → HasWritten asked texts followed old new ⊎ ((followed.code ≡ Some 3) × ¬ CanBeFollowed asked.most asked.until texts)

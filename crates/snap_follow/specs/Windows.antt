@@ -1,6 +1,7 @@
 -- The windows of a recording, and what is written about them.
 use Rattle.std.specs.Prelude.{◌≡◌, ◌≢◌, ◌≤◌, ◌<◌, ◌==◌, ◌++◌, ◌+◌, ℕ, Bool, if◌then◌else◌, List, [], ◌∷◌, length, Option, Some, None, codes, count_by, decimal, find, flat_map, slice_get, sum_by}
 use Rattle.std.specs.Global.{Vec}
+use Rattle.snap_core.specs.declared.limit.Limit.{Limit}
 use Rattle.snap_core.specs.declared.entry.Entry.{Entry}
 use Rattle.snap_core.specs.declared.event.Event.{Event}
 use Rattle.snap_names.specs.Shown.{shown}
@@ -35,19 +36,19 @@ HasEnded least before window = (least ≤ length window) × IsQuiet (before ++ w
 
 -- a window after others has their number and one more. It has the counts of its own events, the places of the first and the last of
 -- them, what their views miss, and the verdict on them from what the others left
-pub record IsToldAfter (least : ℕ) (stands : List Place) (front : List Told) (t : Told) : Type 0 where
+pub record IsToldAfter (least : ℕ) (most : Limit) (stands : List Place) (front : List Told) (t : Told) : Type 0 where
   pub number : t.number ≡ stop (length front + 1)
   pub span : IsSpanOf t.window.span t.events
   pub places : IsSpanIn t.window.span stands (length (events_of front)) (length t.events)
   pub missed : AreMissed stands (events_of front) t.events t.window.span.missed
-  pub verdict : IsVerdict t.window.verdict (events_of front) t.events
+  pub verdict : IsVerdict most.writers t.window.verdict (events_of front) t.events
   pub first : EndsFirst least (events_of front) t.events
   pub some : 0 < least → t.events ≢ []
 
 -- windows are those of these events, which stand at these places: they have all of them, and each but the last has ended
-pub record AreWindowsOf (least : ℕ) (places : List Place) (events : List Event) (told : List Told) : Type 0 where
+pub record AreWindowsOf (least : ℕ) (most : Limit) (places : List Place) (events : List Event) (told : List Told) : Type 0 where
   pub all : events_of told ≡ events
-  pub each : (front behind : List Told) (t : Told) → told ≡ front ++ t ∷ behind → IsToldAfter least places front t
+  pub each : (front behind : List Told) (t : Told) → told ≡ front ++ t ∷ behind → IsToldAfter least most places front t
   pub ended : (front behind : List Told) (t : Told) → told ≡ front ++ t ∷ behind → behind ≢ [] → HasEnded least (events_of front) t.events
 
 -- The line of a window.

@@ -1,5 +1,6 @@
 //! The course of a recording that is followed: its bytes are cut into lines, and its windows are answered.
 ghost use Rattle.std.specs.Prelude.{◌≡◌, ◌≢◌, ◌↔◌, ◌⊎◌, ◌++◌, ◌∷◌, [], ℕ, List, drop, false, true, IfOk, IsTrue, OnOk};
+ghost use Rattle.snap_core.specs.declared.limit.Limit.{Limit};
 ghost use Rattle.snap_core.specs.declared.event.Event.{Event};
 ghost use Rattle.snap_follow.specs.Followed.{HasRead, IsStatusOf, StopsAt};
 ghost use Rattle.snap_follow.specs.inside.Courses.{EndsBytes, EndsWindow, HasFollowed, HasJudged, HasNoneSoFar, HasWaiting, IsBegun, IsTooLong, StopsIn, StopsLast, TakesBytes, TakesLast, TakesLine, TakesMore};
@@ -30,7 +31,7 @@ pub(crate) struct Course {
 impl Course {
     /// A recording of which nothing was read.
     pub(crate) fn new(alloc: Global, least: u32, most: Limit, late: u32) -> Course
-        ensures { HasFollowed result [] least most.events [] [] [] }
+        ensures { HasFollowed result [] least most [] [] [] }
     {
         Course {
             follow: Follow::new(alloc, least, most, late),
@@ -216,8 +217,8 @@ impl Course {
 
     /// Ends the recording, in which calls may be open. It answers the exit status of the whole.
     pub(crate) fn finish(self, alloc: Global) -> Result<(u8, Answers), AllocError>
-        ensures status { IfOk result (λ x. (least most : ℕ) (texts : List (List (List ℕ))) (lines : List (List ℕ)) (events : List Event) → HasRead self.follow least most texts lines events → IsStatusOf events x.0) }
-        ensures told { IfOk result (λ x. (gone : List ℕ) (least most : ℕ) (texts : List (List (List ℕ))) (lines : List (List ℕ)) (events : List Event) (h : HasJudged self.follow self.answers gone least most texts lines events) → HasToldAll x.1 gone least h.read.places events) }
+        ensures status { IfOk result (λ x. (least : ℕ) (most : Limit) (texts : List (List (List ℕ))) (lines : List (List ℕ)) (events : List Event) → HasRead self.follow least most texts lines events → IsStatusOf most.writers events x.0) }
+        ensures told { IfOk result (λ x. (gone : List ℕ) (least : ℕ) (most : Limit) (texts : List (List (List ℕ))) (lines : List (List ℕ)) (events : List Event) (h : HasJudged self.follow self.answers gone least most texts lines events) → HasToldAll x.1 gone least most h.read.places events) }
     {
         let Course {
             follow,

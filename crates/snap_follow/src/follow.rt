@@ -1,16 +1,17 @@
 //! A recording that is followed, line by line.
 ghost use Rattle.std.specs.Prelude.{◌≡◌, ◌≢◌, ◌≤◌, ◌<◌, ◌++◌, ◌∷◌, [], ◌↔◌, ℕ, List, None, Some, IsTrue, IfErr, IfNone, IfOk, IfSome, OnErr, OnOk, drop, false, true, length};
+ghost use Rattle.snap_core.specs.declared.limit.Limit.{Limit};
 ghost use Rattle.snap_core.specs.declared.event.Event.{Event};
 ghost use Rattle.snap_core.specs.Calls.{calls_of};
-ghost use Rattle.snap_core.specs.Events.{IsHistory};
+ghost use Rattle.snap_core.specs.Bounded.{IsHistoryBy};
 ghost use Rattle.snap_follow.specs.inside.Counts.{CountsOpen};
 ghost use Rattle.snap_follow.specs.inside.Refusals.{ended_by};
 ghost use Rattle.snap_follow.specs.declared.follow.Ended.TheVariants as ends;
 ghost use Rattle.snap_follow.specs.declared.form.Form.TheVariants as forms;
-ghost use Rattle.snap_core.specs.Orders.{IsAtomic};
 ghost use Rattle.snap_core.specs.Regular.{IsRegular};
 ghost use Rattle.snap_csv.specs.OneLine.{AnswersLine};
 ghost use Rattle.snap_format.specs.Rows.{rows_of};
+ghost use Rattle.snap_theory.specs.Versions.{IsAtomicBy};
 ghost use Rattle.snap_theory.specs.Windows.{IsQuiet};
 ghost use Rattle.snap_windows.specs.Taken.{HasTaken};
 ghost use Rattle.snap_windows.specs.Verdicts.{IsVerdict};
@@ -109,10 +110,10 @@ fn open_behind(before: u64, event: &Event) -> u64
 }
 
 impl Follow {
-    /// A recording of which nothing was read. A window ends at the first moment without an open call from `least` events on. It has at
-    /// most as many events as the limit says. At most `late` records with stamps wait.
+    /// A recording of which nothing was read. A window ends at the first moment without an open call from `least` events on. The limit
+    /// `most` says how many events it has at most, and whether a component may have many writers. At most `late` records with stamps wait.
     pub fn new(alloc: Global, least: u32, most: Limit, late: u32) -> Follow
-        ensures { HasRead result least most.events [] [] [] }
+        ensures { HasRead result least most [] [] [] }
     {
         let place = Place { text: 0, number: 0 };
         Follow {
@@ -196,7 +197,7 @@ impl Follow {
         ensures counted { OnOk result (CountsOpen self.old.open_calls event.now self.new.open_calls) }
         ensures span { OnOk result (HasOneMore self.old.span event.now place self.new.span) }
         ensures missed { OnOk result (MissesNext self.old.judge event.now self.old.span.missed place self.new.span.missed) }
-        ensures refused { IfErr result (λ why. (before since : List Event) → HasTaken self.old.judge before since → IsHistory (before ++ (since ++ event.now ∷ [])) → IsLack self.old.judge since why) }
+        ensures refused { IfErr result (λ why. (before since : List Event) → HasTaken self.old.judge before since → IsHistoryBy self.old.judge.most.writers (before ++ (since ++ event.now ∷ [])) → IsLack self.old.judge since why) }
     {
         let missed = match self.judge.take(alloc, event) {
             Ok(missed) => missed,
@@ -336,14 +337,14 @@ impl Follow {
 
     /// Ends the window at hand exactly if it has enough events and no call is open. The error is want of memory.
     pub fn cut(&mut self, alloc: Global) -> Result<Option<Window>, AllocError>
-        ensures same { OnOk result ((least most : ℕ) (texts : List (List (List ℕ))) (lines : List (List ℕ)) (events : List Event) → HasRead self.old least most texts lines events → HasRead self.new least most texts lines events) }
-        ensures window { IfOk result (λ found. IfSome found (λ window. (least most : ℕ) (texts : List (List (List ℕ))) (lines : List (List ℕ)) (events : List Event) (h : HasRead self.old least most texts lines events) → IsVerdict window.verdict h.before h.since)) }
-        ensures enough { IfOk result (λ found. IfSome found (λ window. (least most : ℕ) (texts : List (List (List ℕ))) (lines : List (List ℕ)) (events : List Event) (h : HasRead self.old least most texts lines events) → least ≤ length h.since)) }
-        ensures begun { IfOk result (λ found. IfSome found (λ window. (least most : ℕ) (texts : List (List (List ℕ))) (lines : List (List ℕ)) (events : List Event) (h : HasRead self.old least most texts lines events) → (n : HasRead self.new least most texts lines events) × (n.before ≡ h.before ++ h.since) × (n.since ≡ []) × (n.places ≡ h.places))) }
+        ensures same { OnOk result ((least : ℕ) (most : Limit) (texts : List (List (List ℕ))) (lines : List (List ℕ)) (events : List Event) → HasRead self.old least most texts lines events → HasRead self.new least most texts lines events) }
+        ensures window { IfOk result (λ found. IfSome found (λ window. (least : ℕ) (most : Limit) (texts : List (List (List ℕ))) (lines : List (List ℕ)) (events : List Event) (h : HasRead self.old least most texts lines events) → IsVerdict most.writers window.verdict h.before h.since)) }
+        ensures enough { IfOk result (λ found. IfSome found (λ window. (least : ℕ) (most : Limit) (texts : List (List (List ℕ))) (lines : List (List ℕ)) (events : List Event) (h : HasRead self.old least most texts lines events) → least ≤ length h.since)) }
+        ensures begun { IfOk result (λ found. IfSome found (λ window. (least : ℕ) (most : Limit) (texts : List (List (List ℕ))) (lines : List (List ℕ)) (events : List Event) (h : HasRead self.old least most texts lines events) → (n : HasRead self.new least most texts lines events) × (n.before ≡ h.before ++ h.since) × (n.since ≡ []) × (n.places ≡ h.places))) }
         ensures span { IfOk result (λ found. IfSome found (λ window. window.span ≡ self.old.span)) }
         ensures kept { IfOk result (λ found. IfNone found (self.new ≡ self.old)) }
         ensures waits { self.new.waiting ≡ self.old.waiting }
-        ensures ends { IfOk result (λ found. IfNone found ((least most : ℕ) (texts : List (List (List ℕ))) (lines : List (List ℕ)) (events : List Event) (h : HasRead self.old least most texts lines events) → IsQuiet events → length h.since < least)) }
+        ensures ends { IfOk result (λ found. IfNone found ((least : ℕ) (most : Limit) (texts : List (List (List ℕ))) (lines : List (List ℕ)) (events : List Event) (h : HasRead self.old least most texts lines events) → IsQuiet events → length h.since < least)) }
     {
         if self.open_calls > 0 || self.judge.len() < self.least {
             return Ok(None);
@@ -359,9 +360,9 @@ impl Follow {
     /// Ends the recording, in which calls may be open: its last window, and what the whole is. The error is want of memory.
     pub fn finish(self, alloc: Global) -> Result<(Window, Verdict), AllocError>
         ensures span { IfOk result (λ x. x.0.span ≡ self.span) }
-        ensures window { IfOk result (λ x. (least most : ℕ) (texts : List (List (List ℕ))) (lines : List (List ℕ)) (events : List Event) (h : HasRead self least most texts lines events) → IsVerdict x.0.verdict h.before h.since) }
-        ensures regular { IfOk result (λ x. (least most : ℕ) (texts : List (List (List ℕ))) (lines : List (List ℕ)) (events : List Event) → HasRead self least most texts lines events → IsTrue x.1.regular ↔ IsRegular (calls_of events)) }
-        ensures atomic { IfOk result (λ x. (least most : ℕ) (texts : List (List (List ℕ))) (lines : List (List ℕ)) (events : List Event) → HasRead self least most texts lines events → IsTrue x.1.atomic ↔ IsAtomic (calls_of events)) }
+        ensures window { IfOk result (λ x. (least : ℕ) (most : Limit) (texts : List (List (List ℕ))) (lines : List (List ℕ)) (events : List Event) (h : HasRead self least most texts lines events) → IsVerdict most.writers x.0.verdict h.before h.since) }
+        ensures regular { IfOk result (λ x. (least : ℕ) (most : Limit) (texts : List (List (List ℕ))) (lines : List (List ℕ)) (events : List Event) → HasRead self least most texts lines events → IsTrue x.1.regular ↔ IsRegular (calls_of events)) }
+        ensures atomic { IfOk result (λ x. (least : ℕ) (most : Limit) (texts : List (List (List ℕ))) (lines : List (List ℕ)) (events : List Event) → HasRead self least most texts lines events → IsTrue x.1.atomic ↔ IsAtomicBy most.writers (calls_of events)) }
     {
         let span = self.span;
         let (verdict, whole) = self.judge.finish(alloc)?;

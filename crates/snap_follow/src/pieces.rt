@@ -1,5 +1,6 @@
 //! The texts of a recording, piece by piece.
 ghost use Rattle.std.specs.Prelude.{◌≡◌, ◌≢◌, ◌≤◌, ◌<◌, ℕ, List, [], true, false, length, IsSome, None, Some, IfOk, IfErr, IfSome, OnOk};
+ghost use Rattle.snap_core.specs.declared.limit.Limit.{Limit};
 ghost use Rattle.snap_follow.specs.Recordings.{CanBeFollowed};
 ghost use Rattle.snap_follow.specs.inside.Courses.{HasFollowed, StopsIn, StopsLast, TakesBytesFor};
 ghost use Rattle.snap_follow.specs.Texts.{AreNone};
@@ -312,10 +313,10 @@ fn read_pieces<Rt: Wait, T: Texts, W: Write, C: Clock>(
     piece: &mut [u8],
 ) -> Result<(), Stop>
     requires { 0 < length piece.old }
-    ensures done { OnOk result ((sent : HasSent W.contents writer.old writer.new) × ((least most : ℕ) (all : List (List ℕ)) → IsUnderWay T.Text.remaining course.old at_hand.old (T.left texts.old) [] least most all → IsDone course.new until sent.out least most all)) }
-    ensures refused { IfErr result (λ stop. OnRefusal stop ((least most : ℕ) (all : List (List ℕ)) → IsUnderWay T.Text.remaining course.old at_hand.old (T.left texts.old) [] least most all → ¬ CanBeFollowed most until all)) }
+    ensures done { OnOk result ((sent : HasSent W.contents writer.old writer.new) × ((least : ℕ) (most : Limit) (all : List (List ℕ)) → IsUnderWay T.Text.remaining course.old at_hand.old (T.left texts.old) [] least most all → IsDone course.new until sent.out least most all)) }
+    ensures refused { IfErr result (λ stop. OnRefusal stop ((least : ℕ) (most : Limit) (all : List (List ℕ)) → IsUnderWay T.Text.remaining course.old at_hand.old (T.left texts.old) [] least most all → ¬ CanBeFollowed most until all)) }
     ensures stopped { IfErr result (λ stop. StopLeaves W.contents writer.old writer.new stop) }
-    ensures tells { IfErr result (StopTells (T.loses texts.new) (((least most : ℕ) (all : List (List ℕ)) → IsUnderWay T.Text.remaining course.old at_hand.old (T.left texts.old) [] least most all → all ≡ []) × AreNone T.count T.waits T.looked texts.old texts.new)) }
+    ensures tells { IfErr result (StopTells (T.loses texts.new) (((least : ℕ) (most : Limit) (all : List (List ℕ)) → IsUnderWay T.Text.remaining course.old at_hand.old (T.left texts.old) [] least most all → all ≡ []) × AreNone T.count T.waits T.looked texts.old texts.new)) }
 {
     let mut pauses = Pauses {
         idle: 0,
@@ -344,10 +345,10 @@ pub(crate) fn read_all<Rt: Wait, T: Texts, W: Write, C: Clock>(
     course: &mut Course,
     until: Until,
 ) -> Result<(), Stop>
-    ensures done { OnOk result ((sent : HasSent W.contents writer.old writer.new) × ((least most : ℕ) → HasFollowed course.old [] least most [] [] [] → IfSome (T.left texts.old) (IsDone course.new until sent.out least most))) }
-    ensures refused { IfErr result (λ stop. OnRefusal stop ((least most : ℕ) → HasFollowed course.old [] least most [] [] [] → IfSome (T.left texts.old) (λ all. ¬ CanBeFollowed most until all))) }
+    ensures done { OnOk result ((sent : HasSent W.contents writer.old writer.new) × ((least : ℕ) (most : Limit) → HasFollowed course.old [] least most [] [] [] → IfSome (T.left texts.old) (IsDone course.new until sent.out least most))) }
+    ensures refused { IfErr result (λ stop. OnRefusal stop ((least : ℕ) (most : Limit) → HasFollowed course.old [] least most [] [] [] → IfSome (T.left texts.old) (λ all. ¬ CanBeFollowed most until all))) }
     ensures stopped { IfErr result (λ stop. StopLeaves W.contents writer.old writer.new stop) }
-    ensures tells { IfErr result (StopTells (T.loses texts.new) (((least most : ℕ) → HasFollowed course.old [] least most [] [] [] → IfSome (T.left texts.old) (λ all. all ≡ [])) × AreNone T.count T.waits T.looked texts.old texts.new)) }
+    ensures tells { IfErr result (StopTells (T.loses texts.new) (((least : ℕ) (most : Limit) → HasFollowed course.old [] least most [] [] [] → IfSome (T.left texts.old) (λ all. all ≡ [])) × AreNone T.count T.waits T.looked texts.old texts.new)) }
 {
     let mut piece = Vec::new(alloc);
     piece.resize(PIECE, 0)?;

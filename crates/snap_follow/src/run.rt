@@ -1,6 +1,7 @@
 //! The run that follows a recording, from its texts to a writer.
 ghost use Rattle.std.specs.Prelude.{◌≡◌, ◌≢◌, ◌<◌, ◌↔◌, ◌++◌, ◌∷◌, ℕ, List, [], IsTrue, IsSome, Some, None, IfErr, IfOk, IfSome, OnOk};
 ghost use Rattle.std.specs.Io.KnownBytes.{Appends};
+ghost use Rattle.snap_core.specs.declared.limit.Limit.{Limit};
 ghost use Rattle.snap_core.specs.Counting.{inner_of};
 ghost use Rattle.snap_core.specs.declared.counted.Counted.{Counted};
 ghost use Rattle.snap_core.specs.declared.event.Event.{Event};
@@ -48,7 +49,7 @@ pub struct FollowOptions {
     /// A window ends at the first moment without an open call from this many events on. If that is more than it may have, none ends
     /// before the recording does.
     pub least: u32,
-    /// The most events that a window may have.
+    /// The limit of a window: the most events that it may have, and whether a component may have many writers.
     pub most: Limit,
     /// The most records with stamps that wait for others. A record may come up to this many records late.
     pub late: u32,
@@ -122,9 +123,9 @@ fn end_whole<W: Write>(
 ) -> Result<Followed, FollowFault>
     ensures lost { IfOk result (λ followed. followed.lost ≡ None) }
     ensures rest { IfOk result (λ followed. IsTrue followed.has_rest ↔ (course.rest.items ≢ [])) }
-    ensures code { IfOk result (λ followed. IfSome followed.code (λ code. (least most : ℕ) (texts : List (List (List ℕ))) (lines : List (List ℕ)) (events : List Event) → HasRead course.follow least most texts lines events → IsStatusOf events code)) }
-    ensures told { IfOk result (λ followed. (gone : List ℕ) (least most : ℕ) (texts : List (List (List ℕ))) (lines : List (List ℕ)) (events : List Event) (h : HasJudged course.follow course.answers gone least most texts lines events)
-        → TellsRest (W.contents (inner_of writer.old)) (W.contents (inner_of writer.new)) gone least h.read.places events views followed.code) }
+    ensures code { IfOk result (λ followed. IfSome followed.code (λ code. (least : ℕ) (most : Limit) (texts : List (List (List ℕ))) (lines : List (List ℕ)) (events : List Event) → HasRead course.follow least most texts lines events → IsStatusOf most.writers events code)) }
+    ensures told { IfOk result (λ followed. (gone : List ℕ) (least : ℕ) (most : Limit) (texts : List (List (List ℕ))) (lines : List (List ℕ)) (events : List Event) (h : HasJudged course.follow course.answers gone least most texts lines events)
+        → TellsRest (W.contents (inner_of writer.old)) (W.contents (inner_of writer.new)) gone least most h.read.places events views followed.code) }
     ensures wrote { Leaves W.contents writer.old writer.new result }
     ensures tells { IfErr result (λ fault. fault ≢ faults.NoText) }
 {

@@ -298,10 +298,6 @@ const TOGETHER: &[(&str, &str)] = &[
         "error: the argument '--follow' cannot be used with '--workers <W>'\n",
     ),
     (
-        "snapjudge check --follow --writers one",
-        "error: the argument '--follow' cannot be used with '--writers <WRITERS>'\n",
-    ),
-    (
         "snapjudge check --writers two --follow",
         "error: invalid value for '--writers <WRITERS>'\n  [possible values: one, many]\n\nFor more information, try '--help'.\n",
     ),

@@ -209,11 +209,11 @@ check_of words asked files unheeded fit taken named said files_are =
     means words (codes "check") (λ rows. AsksCheck rows asked) files taken named
     (asks_check (rows_by words) asked files unheeded fit said files_are) files_are
 
--- what is said where windows are asked for, by these texts of numbers or without
-abbrev pub following : Limit → Windows → Option Text → Option Text → Option Text → Said → Said
-following limit windows window idle late said = record said {
+-- what is said where windows are asked for, by these texts of writers and numbers or without
+abbrev pub following : Limit → Windows → Option Text → Option Text → Option Text → Option Text → Said → Said
+following limit windows writers window idle late said = record said {
   events = Some (decimal limit.events);
-  writers = None;
+  writers = writers;
   views = Some (decimal windows.views);
   quiet = Some (flag_text false);
   format = Some (format_text Plain);
@@ -227,17 +227,17 @@ following limit windows window idle late said = record said {
 }
 
 -- lines of `check --follow`
-pub follow_of : {window idle late : Option Text} → (words : List Text) (limit : Limit) (windows : Windows) (files : List Text) → limit.writers ≡ One
+pub follow_of : {writers window idle late : Option Text} → (words : List Text) (limit : Limit) (windows : Windows) (files : List Text) → SaysWriters writers limit.writers
     → AreViews limit.events windows.views → IsWindow limit.events windows.least → windows.idle ≤ NUMBER_LIMIT → windows.late ≤ event_cap → length files ≤ 1
     → SaysOr (usual_window limit.events) window windows.least → SaysOr 0 idle windows.idle → SaysOr usual_late late windows.late → takes program_app words ≡ true
     → command_in (subcommand_of program_app words) ≡ Some (codes "check")
-    → said_in (rows_by words) ≡ following limit windows window idle late (said_in (rows_by words)) → files_of (rows_by words) ≡ files
+    → said_in (rows_by words) ≡ following limit windows writers window idle late (said_in (rows_by words)) → files_of (rows_by words) ≡ files
     → Means words (codes "check") (λ rows. AsksFollow limit rows windows) files
-follow_of words limit windows files one_writer views_fit window_fits idle_fits late_fits one_file window_is idle_is late_is taken named said files_are =
+follow_of words limit windows files writers_are views_fit window_fits idle_fits late_fits one_file window_is idle_is late_is taken named said files_are =
     means words (codes "check") (λ rows. AsksFollow limit rows windows) files taken named (record {
       limit_is = record {
         events_are = ap (λ s. s.events) said;
-        writers_are = subst (λ text. SaysWriters text limit.writers) (sym (ap (λ s. s.writers) said)) one_writer;
+        writers_are = subst (λ text. SaysWriters text limit.writers) (sym (ap (λ s. s.writers) said)) writers_are;
       };
       views_fit = views_fit;
       window_fits = window_fits;

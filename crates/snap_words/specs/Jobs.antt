@@ -254,7 +254,7 @@ pub record LacksFollow (rows : List Row) : Type 0 where
 -- Whether an option is given that has no use with --follow: --pieces, --workers, --writers, --color, --files-from or --recursive.
 abbrev pub names_unheeded : List Row → Bool
 names_unheeded rows =
-    is_some (first_of (codes "pieces") rows) || is_some (first_of (codes "workers") rows) || is_some (first_of (codes "writers") rows)
+    is_some (first_of (codes "pieces") rows) || is_some (first_of (codes "workers") rows)
     || is_some (first_of (codes "color") rows) || is_some (first_of (codes "list") rows) || is_some (first_of (codes "folder") rows)
 
 -- --follow is given, and such an option too: that asks for no job

@@ -71,7 +71,7 @@ With --follow one recording is judged while it grows, window by window: a file, 
 folder. Each window ends at a moment at which no call is open, and the next one begins from what was
 left. Each is answered by a line, and the sums come at the end. With --idle N that is when nothing has
 come for N seconds. Records with stamps may come up to 1,000 records late, or N with --late N. Not
-with --quiet, --format json or junit, or --summary, nor with --pieces, --workers, --writers or --color.
+with --quiet, --format json or junit, or --summary, nor with --pieces, --workers or --color.
 
 On a terminal a line on standard error shows how far it is, where there are more than 100 files or a
 second has passed. --no-progress leaves it out. The verdicts have colours there, unless --color never

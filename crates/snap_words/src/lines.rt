@@ -30,6 +30,7 @@ pub fn check_lines()
     ensures follow { (name : Text) → Means (name ∷ codes "check" ∷ codes "--follow" ∷ codes "--window" ∷ codes "500" ∷ codes "--idle" ∷ codes "5" ∷ []) (codes "check") (λ rows. AsksFollow usual_limit rows (record { least = 500; idle = 5; late = 1000; views = 0 })) [] }
     ensures few { (name : Text) (fits : IsLimit 500) → Means (name ∷ codes "check" ∷ codes "--follow" ∷ codes "--events" ∷ codes "500" ∷ []) (codes "check") (λ rows. AsksFollow (limit_of 500 fits) rows (record { least = 250; idle = 0; late = 1000; views = 0 })) [] }
     ensures late { (name : Text) → Means (name ∷ codes "check" ∷ codes "--follow" ∷ codes "--late" ∷ codes "20" ∷ []) (codes "check") (λ rows. AsksFollow usual_limit rows (record { least = 1000; idle = 0; late = 20; views = 0 })) [] }
+    ensures follow_writers { (name : Text) → Means (name ∷ codes "check" ∷ codes "--follow" ∷ codes "--writers" ∷ codes "many" ∷ []) (codes "check") (λ rows. AsksFollow usual_many rows (record { least = 1000; idle = 0; late = 1000; views = 0 })) [] }
     ensures late_unfollowed { (name : Text) → Means (name ∷ codes "check" ∷ codes "--late" ∷ codes "20" ∷ []) (codes "check") LacksFollow [] }
     ensures unfollowed { (name : Text) → Means (name ∷ codes "check" ∷ codes "--window" ∷ codes "500" ∷ []) (codes "check") LacksFollow [] }
     ensures color { (name : Text) → Means (name ∷ codes "check" ∷ codes "--color" ∷ codes "never" ∷ []) (codes "check") (λ rows. AsksCheck rows (record plain_check { options = record no_options { color = Never } })) [] }

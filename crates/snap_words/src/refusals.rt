@@ -25,7 +25,6 @@ pub(crate) fn names_unheeded(matches: &ArgMatches<'_>) -> bool
 {
     is_given(matches, "pieces")
         || is_given(matches, "workers")
-        || is_given(matches, "writers")
         || is_given(matches, "color")
         || is_given(matches, "list")
         || is_given(matches, "folder")
@@ -37,8 +36,6 @@ fn unheeded_refusal(matches: &ArgMatches<'_>) -> &'static str {
         "error: the argument '--follow' cannot be used with '--pieces <P>'\n"
     } else if is_given(matches, "workers") {
         "error: the argument '--follow' cannot be used with '--workers <W>'\n"
-    } else if is_given(matches, "writers") {
-        "error: the argument '--follow' cannot be used with '--writers <WRITERS>'\n"
     } else if is_given(matches, "color") {
         "error: the argument '--follow' cannot be used with '--color <WHEN>'\n"
     } else if is_given(matches, "list") {

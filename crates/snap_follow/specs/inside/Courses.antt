@@ -1,5 +1,6 @@
 -- What the course of a recording has taken.
 use Rattle.std.specs.Prelude.{◌≡◌, ◌≢◌, ◌<◌, ◌++◌, ◌⊎◌, ℕ, List, [], ◌∷◌, flat_map, length}
+use Rattle.snap_core.specs.declared.limit.Limit.{Limit}
 use Rattle.snap_core.specs.declared.event.Event.{Event}
 use Rattle.snap_follow.specs.declared.answers.Answers.{Answers}
 use Rattle.snap_follow.specs.declared.course.Course.{Course}
@@ -16,15 +17,15 @@ use Rattle.snap_follow.specs.declared.course.TheConstants.{RECORD_LIMIT}
 
 -- some lines of a recording were read, and its windows that have ended were answered: these bytes of their lines have gone out. No window
 -- is overdue, and the one at hand could not have ended before
-pub record HasJudged (follow : Follow) (answers : Answers) (gone : List ℕ) (least most : ℕ) (texts : List (List (List ℕ))) (lines : List (List ℕ)) (events : List Event) : Type 0 where
+pub record HasJudged (follow : Follow) (answers : Answers) (gone : List ℕ) (least : ℕ) (most : Limit) (texts : List (List (List ℕ))) (lines : List (List ℕ)) (events : List Event) : Type 0 where
   pub read : HasRead follow least most texts lines events
   pub in_time : IsInTime least events read.since
   pub first : EndsFirst least read.before read.since
-  pub told : HasTold answers gone least read.places read.before
+  pub told : HasTold answers gone least most read.places read.before
 
 -- lines were taken
 abbrev pub TakesLines : Course → Course → List (List ℕ) → Type 0
-TakesLines old new added = (gone : List ℕ) (least most : ℕ) (texts : List (List (List ℕ))) (lines : List (List ℕ)) (events : List Event) → HasJudged old.follow old.answers gone least most texts lines events →
+TakesLines old new added = (gone : List ℕ) (least : ℕ) (most : Limit) (texts : List (List (List ℕ))) (lines : List (List ℕ)) (events : List Event) → HasJudged old.follow old.answers gone least most texts lines events →
     (more : List Event) × HasJudged new.follow new.answers gone least most texts (lines ++ added) (events ++ more)
 
 abbrev pub TakesLine : Course → Course → List ℕ → Type 0
@@ -43,39 +44,39 @@ abbrev pub HasWaiting : Follow → Type 0
 HasWaiting follow = follow.waiting.turns.items ≢ []
 
 -- a recording was followed so far: the lines of some whole texts, and of the bytes of the text at hand, say these events
-pub record HasFollowed (course : Course) (gone : List ℕ) (least most : ℕ) (texts : List (List (List ℕ))) (bytes : List ℕ) (events : List Event) : Type 0 where
+pub record HasFollowed (course : Course) (gone : List ℕ) (least : ℕ) (most : Limit) (texts : List (List (List ℕ))) (bytes : List ℕ) (events : List Event) : Type 0 where
   pub lines : List (List ℕ)
   pub cut : AreLinesOf bytes lines course.rest.items
   pub read : HasJudged course.follow course.answers gone least most texts lines events
 
 -- bytes were taken, and these bytes went out
 abbrev pub TakesBytesFor : List ℕ → Course → Course → List ℕ → Type 0
-TakesBytesFor out old new piece = (gone : List ℕ) (least most : ℕ) (texts : List (List (List ℕ))) (bytes : List ℕ) (events : List Event) → HasFollowed old gone least most texts bytes events →
+TakesBytesFor out old new piece = (gone : List ℕ) (least : ℕ) (most : Limit) (texts : List (List (List ℕ))) (bytes : List ℕ) (events : List Event) → HasFollowed old gone least most texts bytes events →
     (more : List Event) × HasFollowed new (gone ++ out) least most texts (bytes ++ piece) (events ++ more)
 
 -- bytes were taken
 abbrev pub TakesBytes : Course → Course → List ℕ → Type 0
-TakesBytes old new piece = (gone : List ℕ) (least most : ℕ) (texts : List (List (List ℕ))) (bytes : List ℕ) (events : List Event) → HasFollowed old gone least most texts bytes events →
+TakesBytes old new piece = (gone : List ℕ) (least : ℕ) (most : Limit) (texts : List (List (List ℕ))) (bytes : List ℕ) (events : List Event) → HasFollowed old gone least most texts bytes events →
     (more : List Event) × HasFollowed new gone least most texts (bytes ++ piece) (events ++ more)
 
 -- the bytes of the text at hand have ended: all their lines were taken
 abbrev pub TakesLast : Course → Course → Type 0
-TakesLast old new = (gone : List ℕ) (least most : ℕ) (texts : List (List (List ℕ))) (bytes : List ℕ) (events : List Event) → HasFollowed old gone least most texts bytes events →
+TakesLast old new = (gone : List ℕ) (least : ℕ) (most : Limit) (texts : List (List (List ℕ))) (bytes : List ℕ) (events : List Event) → HasFollowed old gone least most texts bytes events →
     (lines : List (List ℕ)) × (more : List Event) × AreAllLines bytes lines × HasJudged new.follow new.answers gone least most texts lines (events ++ more)
 
 -- the bytes of the text at hand have ended, and the next text begins
 abbrev pub EndsBytes : Course → Course → Type 0
-EndsBytes old new = (gone : List ℕ) (least most : ℕ) (texts : List (List (List ℕ))) (bytes : List ℕ) (events : List Event) → HasFollowed old gone least most texts bytes events →
+EndsBytes old new = (gone : List ℕ) (least : ℕ) (most : Limit) (texts : List (List (List ℕ))) (bytes : List ℕ) (events : List Event) → HasFollowed old gone least most texts bytes events →
     (lines : List (List ℕ)) × (more : List Event) × AreAllLines bytes lines × HasFollowed new gone least most (texts ++ lines ∷ []) [] (events ++ more)
 
 -- a record was read, of this text or of one before it
 abbrev pub IsBegun : Follow → Type 0
-IsBegun follow = (least most : ℕ) (texts : List (List (List ℕ))) (lines : List (List ℕ)) (events : List Event) → HasRead follow least most texts lines events →
+IsBegun follow = (least : ℕ) (most : Limit) (texts : List (List (List ℕ))) (lines : List (List ℕ)) (events : List Event) → HasRead follow least most texts lines events →
     (texts ≢ []) ⊎ (flat_map rows_of lines ≢ [])
 
 -- no record was read so far
 abbrev pub HasNoneSoFar : Follow → Type 0
-HasNoneSoFar follow = (least most : ℕ) (texts : List (List (List ℕ))) (lines : List (List ℕ)) (events : List Event) → HasRead follow least most texts lines events →
+HasNoneSoFar follow = (least : ℕ) (most : Limit) (texts : List (List (List ℕ))) (lines : List (List ℕ)) (events : List Event) → HasRead follow least most texts lines events →
     (texts ≡ []) × (flat_map rows_of lines ≡ [])
 
 -- a line has more bytes than a record may have
@@ -105,12 +106,12 @@ HaveStamps n lines = (turns : List Turn) × Spells Stamped n (flat_map rows_of l
 
 -- the records of the text at hand have stamps
 abbrev pub HasStamps : Course → Type 0
-HasStamps old = (gone : List ℕ) (least most : ℕ) (texts : List (List (List ℕ))) (bytes : List ℕ) (events : List Event) → HasFollowed old gone least most texts bytes events →
+HasStamps old = (gone : List ℕ) (least : ℕ) (most : Limit) (texts : List (List (List ℕ))) (bytes : List ℕ) (events : List Event) → HasFollowed old gone least most texts bytes events →
     (lines : List (List ℕ)) × AreAllLines bytes lines × HaveStamps (length texts) lines
 
 -- the text at hand ends without any record
 abbrev pub HasNothing : Course → Type 0
-HasNothing old = (gone : List ℕ) (least most : ℕ) (texts : List (List (List ℕ))) (bytes : List ℕ) (events : List Event) → HasFollowed old gone least most texts bytes events →
+HasNothing old = (gone : List ℕ) (least : ℕ) (most : Limit) (texts : List (List (List ℕ))) (bytes : List ℕ) (events : List Event) → HasFollowed old gone least most texts bytes events →
     (lines : List (List ℕ)) × AreAllLines bytes lines × (flat_map rows_of lines ≡ [])
 
 -- the end of the text at hand stops a recording: its last line does, which need not end, or the text has no record, or records have

@@ -1,6 +1,7 @@
 -- What the writer of a recording has once it is read no further, and what that says of its texts.
 use Rattle.std.specs.Prelude.{⊤, ℕ, List, ◌≡◌, ◌≢◌, ◌<◌, ◌↔◌, ◌++◌, Option, None, flat_map}
 use Rattle.std.specs.Io.KnownBytes.{Appends}
+use Rattle.snap_core.specs.declared.limit.Limit.{Limit}
 use Rattle.snap_core.specs.declared.event.Event.{Event}
 use Rattle.snap_core.specs.declared.counted.Counted.{Counted}
 use Rattle.snap_follow.specs.declared.span.Place.{Place}
@@ -47,9 +48,9 @@ StopsBy (ends.Lost lost) stop = stop ≡ Lost lost
 StopsBy ends.Memory stop = stop ≡ Fault Memory
 
 -- the rest of what is told of a recording was written, after these bytes had gone out
-pub record TellsRest (old new : Option (List ℕ)) (gone : List ℕ) (least : ℕ) (places : List Place) (events : List Event) (views : ℕ) (code : Option ℕ) : Type 0 where
+pub record TellsRest (old new : Option (List ℕ)) (gone : List ℕ) (least : ℕ) (most : Limit) (places : List Place) (events : List Event) (views : ℕ) (code : Option ℕ) : Type 0 where
   pub told : List Told
-  pub windows : AreWindowsOf least places events told
+  pub windows : AreWindowsOf least most places events told
   pub out : List ℕ
   pub sent : Appends old new out
   pub all : gone ++ out ≡ flat_map line_of told ++ sums_text told

@@ -1,5 +1,6 @@
 -- The sums of the windows so far, and the lines that are still to be written.
 use Rattle.std.specs.Prelude.{◌≡◌, ◌<◌, ◌⊎◌, ◌+◌, ◌++◌, ◌∷◌, [], ℕ, List, Option, Some, None, count_by, find, flat_map, length, sum_by}
+use Rattle.snap_core.specs.declared.limit.Limit.{Limit}
 use Rattle.snap_core.specs.declared.event.Event.{Event}
 use Rattle.snap_follow.specs.Spans.{IsSpanOf, ends_view, stop}
 use Rattle.snap_follow.specs.Windows.{AreWindowsOf, HasEnded, IsToldAfter, Told, events_of, has_code, line_of}
@@ -53,15 +54,15 @@ abbrev pub WritesLines : Answers → Answers → List ℕ → Type 0
 WritesLines old new out = (old.lines ≡ out) × (new.lines ≡ []) × (new.sums ≡ old.sums)
 
 -- the windows that have ended were answered, and all that they have are these events
-pub record HasTold (answers : Answers) (gone : List ℕ) (least : ℕ) (places : List Place) (before : List Event) : Type 0 where
+pub record HasTold (answers : Answers) (gone : List ℕ) (least : ℕ) (most : Limit) (places : List Place) (before : List Event) : Type 0 where
   pub told : List Told
   pub answered : HasAnswered answers gone told
   pub all : events_of told ≡ before
-  pub each : (front behind : List Told) (t : Told) → told ≡ front ++ t ∷ behind → IsToldAfter least places front t
+  pub each : (front behind : List Told) (t : Told) → told ≡ front ++ t ∷ behind → IsToldAfter least most places front t
   pub ended : (front behind : List Told) (t : Told) → told ≡ front ++ t ∷ behind → HasEnded least (events_of front) t.events
 
 -- all windows were answered
-pub record HasToldAll (answers : Answers) (gone : List ℕ) (least : ℕ) (places : List Place) (events : List Event) : Type 0 where
+pub record HasToldAll (answers : Answers) (gone : List ℕ) (least : ℕ) (most : Limit) (places : List Place) (events : List Event) : Type 0 where
   pub told : List Told
   pub answered : HasAnswered answers gone told
-  pub windows : AreWindowsOf least places events told
+  pub windows : AreWindowsOf least most places events told

@@ -18,6 +18,6 @@ pub returns-clause-told : goal.returns-clause-told
 returns-clause-told g c =
     let contents = g.W.Write.contents in
     let given = c.code_of.result in
-    λ gone least most texts lines events h. rest_told c.in_ok-code.answers (contents (inner_of c.args.writer.now)) (contents (inner_of c.write_end.new.writer)) gone least h.read.places events c.args.views given
+    λ gone least most texts lines events h. rest_told c.in_ok-code.answers (contents (inner_of c.args.writer.now)) (contents (inner_of c.write_end.new.writer)) gone least most h.read.places events c.args.views given
     (c.in_ok-code.ensures.told gone least most texts lines events h) c.in_ok-write_end.ensures.told
     (subst (λ z. given ≡ None ↔ z.views < c.args.views) c.in_ok-write_end.ensures.sums c.code_of.ensures.few)

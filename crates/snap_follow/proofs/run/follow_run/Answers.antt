@@ -7,25 +7,25 @@ use Rattle.snap_follow.proofs.run.follow_run.Goals as goal
 
 pub returns-in-Ok-clause-whole : goal.returns-in-Ok-clause-whole
 returns-in-Ok-clause-whole g c =
-    whole_answer c.args.asked (g.T.Texts.left c.args.texts.now) c.read_all.new.course c.in-Ok.ensures.done.0.out c.end_whole.result (c.in-Ok.ensures.done.1 c.args.asked.least c.args.asked.most.events c.new-course.ensures) c.end_whole.ensures.rest c.end_whole.ensures.code
+    whole_answer c.args.asked (g.T.Texts.left c.args.texts.now) c.read_all.new.course c.in-Ok.ensures.done.0.out c.end_whole.result (c.in-Ok.ensures.done.1 c.args.asked.least c.args.asked.most c.new-course.ensures) c.end_whole.ensures.rest c.end_whole.ensures.code
 
 pub returns-in-Err-clause-whole : goal.returns-in-Err-clause-whole
 returns-in-Err-clause-whole g c =
     refused_answer c.args.asked (g.T.Texts.left c.args.texts.now) c.in-Err.stop c.end_early.result
-    (on_refusal c.in-Err.stop _ _ (λ stops. stops c.args.asked.least c.args.asked.most.events c.new-course.ensures) c.in-Err.ensures.refused) c.end_early.ensures.refused
+    (on_refusal c.in-Err.stop _ _ (λ stops. stops c.args.asked.least c.args.asked.most c.new-course.ensures) c.in-Err.ensures.refused) c.end_early.ensures.refused
 
 pub returns-in-Ok-clause-told : goal.returns-in-Ok-clause-told
 returns-in-Ok-clause-told g c =
     let contents = g.W.Write.contents in
     written_answer c.args.asked (g.T.Texts.left c.args.texts.now) c.read_all.new.course c.in-Ok.ensures.done.0.out c.end_whole.result
     (contents (inner_of c.args.writer.now)) (contents (inner_of c.read_all.new.writer)) (contents (inner_of c.end_whole.new.writer))
-    c.in-Ok.ensures.done.0.sent (c.in-Ok.ensures.done.1 c.args.asked.least c.args.asked.most.events c.new-course.ensures) c.end_whole.ensures.rest c.end_whole.ensures.told
+    c.in-Ok.ensures.done.0.sent (c.in-Ok.ensures.done.1 c.args.asked.least c.args.asked.most c.new-course.ensures) c.end_whole.ensures.rest c.end_whole.ensures.told
 
 pub returns-in-Err-clause-told : goal.returns-in-Err-clause-told
 returns-in-Err-clause-told g c =
     let contents = g.W.Write.contents in
     unwritten_answer c.args.asked (g.T.Texts.left c.args.texts.now) c.in-Err.stop c.end_early.result (contents (inner_of c.args.writer.now)) (contents (inner_of c.end_early.new.writer))
-    (on_refusal c.in-Err.stop _ _ (λ stops. stops c.args.asked.least c.args.asked.most.events c.new-course.ensures) c.in-Err.ensures.refused) c.end_early.ensures.refused
+    (on_refusal c.in-Err.stop _ _ (λ stops. stops c.args.asked.least c.args.asked.most c.new-course.ensures) c.in-Err.ensures.refused) c.end_early.ensures.refused
 
 pub returns-in-Ok-clause-wrote : goal.returns-in-Ok-clause-wrote
 returns-in-Ok-clause-wrote g c = leaves_after g.W.Write.contents c.args.writer.now c.read_all.new.writer c.end_whole.new.writer c.end_whole.result c.in-Ok.ensures.done.0 c.end_whole.ensures.wrote
@@ -46,7 +46,7 @@ pub returns-in-Err-clause-none : goal.returns-in-Err-clause-none
 returns-in-Err-clause-none g c =
     let loses = g.T.Texts.loses c.read_all.new.texts in
     answers_none c.end_early.result loses _ c.in-Err.stop c.end_early.ensures.none
-    (tells_as loses loses _ _ c.in-Err.stop (λ lost is. is) (λ both. both.0 c.args.asked.least c.args.asked.most.events c.new-course.ensures) c.in-Err.ensures.tells)
+    (tells_as loses loses _ _ c.in-Err.stop (λ lost is. is) (λ both. both.0 c.args.asked.least c.args.asked.most c.new-course.ensures) c.in-Err.ensures.tells)
 
 pub returns-in-Ok-clause-looked : goal.returns-in-Ok-clause-looked
 returns-in-Ok-clause-looked g c = answers_other c.end_whole.result _ c.end_whole.ensures.tells

@@ -120,7 +120,7 @@ returns-clause-events c = λ name. check_of (name ∷ codes "check" ∷ codes "-
 
 pub returns-clause-writers : goal.returns-clause-writers
 unfolding clap_on_literals digits
-returns-clause-writers c = λ name. check_of (name ∷ codes "check" ∷ codes "--writers" ∷ codes "many" ∷ []) (record plain_check { limit = usual_many }) [] true many_fits refl refl refl refl
+returns-clause-writers c = λ name. check_of (name ∷ codes "check" ∷ codes "--writers" ∷ codes "many" ∷ []) (record plain_check { limit = usual_many }) [] false many_fits refl refl refl refl
 
 pub returns-clause-short : goal.returns-clause-short
 unfolding clap_on_literals digits
@@ -132,15 +132,19 @@ returns-clause-files c = λ name. check_of (name ∷ codes "check" ∷ codes "a.
 
 pub returns-clause-follow : goal.returns-clause-follow
 unfolding clap_on_literals digits
-returns-clause-follow c = λ name. follow_of {window = Some (decimal 500)} {idle = Some (decimal 5)} {late = None} (name ∷ codes "check" ∷ codes "--follow" ∷ codes "--window" ∷ codes "500" ∷ codes "--idle" ∷ codes "5" ∷ []) usual_limit (record { least = 500; idle = 5; late = 1000; views = 0 }) [] refl (omega arith) ((omega arith, omega arith), omega arith) (omega arith) (omega arith) (omega arith) refl refl refl refl refl refl refl
+returns-clause-follow c = λ name. follow_of {writers = None} {window = Some (decimal 500)} {idle = Some (decimal 5)} {late = None} (name ∷ codes "check" ∷ codes "--follow" ∷ codes "--window" ∷ codes "500" ∷ codes "--idle" ∷ codes "5" ∷ []) usual_limit (record { least = 500; idle = 5; late = 1000; views = 0 }) [] refl (omega arith) ((omega arith, omega arith), omega arith) (omega arith) (omega arith) (omega arith) refl refl refl refl refl refl refl
 
 pub returns-clause-few : goal.returns-clause-few
 unfolding clap_on_literals digits
-returns-clause-few c = λ name fits. follow_of {window = None} {idle = None} {late = None} (name ∷ codes "check" ∷ codes "--follow" ∷ codes "--events" ∷ codes "500" ∷ []) (limit_of 500 fits) (record { least = 250; idle = 0; late = 1000; views = 0 }) [] refl (omega arith) ((omega arith, omega arith), omega arith) (omega arith) (omega arith) (omega arith) refl refl refl refl refl refl refl
+returns-clause-few c = λ name fits. follow_of {writers = None} {window = None} {idle = None} {late = None} (name ∷ codes "check" ∷ codes "--follow" ∷ codes "--events" ∷ codes "500" ∷ []) (limit_of 500 fits) (record { least = 250; idle = 0; late = 1000; views = 0 }) [] refl (omega arith) ((omega arith, omega arith), omega arith) (omega arith) (omega arith) (omega arith) refl refl refl refl refl refl refl
 
 pub returns-clause-late : goal.returns-clause-late
 unfolding clap_on_literals digits
-returns-clause-late c = λ name. follow_of {window = None} {idle = None} {late = Some (decimal 20)} (name ∷ codes "check" ∷ codes "--follow" ∷ codes "--late" ∷ codes "20" ∷ []) usual_limit (record { least = 1000; idle = 0; late = 20; views = 0 }) [] refl (omega arith) ((omega arith, omega arith), omega arith) (omega arith) (omega arith) (omega arith) refl refl refl refl refl refl refl
+returns-clause-late c = λ name. follow_of {writers = None} {window = None} {idle = None} {late = Some (decimal 20)} (name ∷ codes "check" ∷ codes "--follow" ∷ codes "--late" ∷ codes "20" ∷ []) usual_limit (record { least = 1000; idle = 0; late = 20; views = 0 }) [] refl (omega arith) ((omega arith, omega arith), omega arith) (omega arith) (omega arith) (omega arith) refl refl refl refl refl refl refl
+
+pub returns-clause-follow_writers : goal.returns-clause-follow_writers
+unfolding clap_on_literals digits
+returns-clause-follow_writers c = λ name. follow_of {writers = Some (codes "many")} {window = None} {idle = None} {late = None} (name ∷ codes "check" ∷ codes "--follow" ∷ codes "--writers" ∷ codes "many" ∷ []) usual_many (record { least = 1000; idle = 0; late = 1000; views = 0 }) [] refl (omega arith) ((omega arith, omega arith), omega arith) (omega arith) (omega arith) (omega arith) refl refl refl refl refl refl refl
 
 pub returns-clause-late_unfollowed : goal.returns-clause-late_unfollowed
 unfolding clap_on_literals

@@ -1,4 +1,4 @@
-use Rattle.std.proofs.Common.{[], ap, arith, inl, inr, refl, subst, sym}
+use Rattle.std.proofs.Common.{[], arith, inl, inr, refl, subst, sym}
 use Rattle.snap_follow.specs.Misses.{AreMissed}
 use Rattle.snap_follow.specs.declared.form.Form.TheVariants.{Plain}
 use Rattle.snap_follow.proofs.Missing.{none_missed}
@@ -8,7 +8,7 @@ use Rattle.snap_follow.proofs.follow.Follow.new.Goals as goal
 pub returns : goal.returns
 returns c = record {
   least_is = refl;
-  most_is = ap (λ z. z.events) c.new.ensures.limit;
+  most_is = c.new.ensures.limit;
   opened = omega arith;
   before = [];
   since = [];
