@@ -6,8 +6,9 @@ usage: test-writers.py PROGRAM [HISTORIES [SEED]]
 A history is a list of calls: updates of two components by any process, which may overlap, and views. Its updates are numbered as they
 begin. In most of them they end in the order of their numbers, and the program must judge these. Each other one is refused at the first
 end out of order. The judge here knows the definitions alone: it goes through all orders of the calls. An order that the program prints
-must be one of them. Some of the histories are also explained, drawn, counted and cut down. A witness has one writer of each component,
-so it is judged without the option. There are 3,000 histories, or as many as are asked for.
+must be one of them. Some of the histories are also explained, drawn, counted and cut down, and some are followed, in windows that end
+as soon as no call is open. A witness has one writer of each component, so it is judged without the option. There are 3,000 histories,
+or as many as are asked for.
 """
 import collections
 import itertools
@@ -17,7 +18,7 @@ import subprocess
 import sys
 import tempfile
 
-HISTORIES, ASKED, BATCH, COMPONENTS, PROCESSES = 3000, 120, 3000, 2, 4
+HISTORIES, ASKED, FOLLOWED, BATCH, COMPONENTS, PROCESSES = 3000, 120, 1000, 3000, 2, 4
 SEED = 20261201
 NEVER = 1 << 30
 
@@ -161,6 +162,14 @@ def asked(program, room, name, status, updates):
     return None
 
 
+def followed(program, records, status):
+    """What is wrong with the windows of a history that is followed, or None, and how many windows there are."""
+    text = "\n".join(["event,process,op,data", *records, ""])
+    run = subprocess.run([program, "check", "--follow", "--writers", "many", "--window", "1", "-"], input=text, capture_output=True, text=True, check=False)
+    windows = sum(line.startswith("window ") for line in run.stdout.splitlines())
+    return None if run.returncode == status else f"followed with status {run.returncode}, and not {status}", windows
+
+
 def reports_of(program, room, histories):
     """What the program says of each history, in lines."""
     names = [f"{place}.csv" for place in range(len(histories))]
@@ -190,8 +199,11 @@ def main(program, count=HISTORIES, seed=SEED):
             histories = [history(rng) for _ in range(min(BATCH, count - judged))]
             for (name, report), (records, calls, out_of_order) in zip(reports_of(program, room, histories), histories):
                 wrong = fault(report, calls, out_of_order)
-                if not wrong and judged < ASKED:
+                if not wrong and judged < FOLLOWED:
                     status = 3 if out_of_order else 0 if is_atomic(calls) else 1 if is_regular(calls) else 2
+                    wrong, windows = followed(program, records, status)
+                    found[f"followed in windows with status {status}"] += windows > 1
+                if not wrong and judged < ASKED:
                     wrong = asked(program, room, name, status, sum(it["update"] is not None for it in calls))
                 judged += 1
                 found.update(kinds_of(report, calls, out_of_order))
@@ -199,7 +211,8 @@ def main(program, count=HISTORIES, seed=SEED):
                     failed += 1
                     print(f"{name}: {wrong}\n" + "\n".join([*records, *report]))
     # a comparison of histories of one kind would show little, and so would one without falling numbers
-    for kind in ("atomic yes", "atomic no", "order", "atomic by falling numbers alone"):
+    in_windows = [f"followed in windows with status {status}" for status in range(4)]
+    for kind in ("atomic yes", "atomic no", "order", "atomic by falling numbers alone", *in_windows):
         if found[kind] < 20:
             failed += 1
             print(f"too few histories are {kind}: {found[kind]}")

@@ -20,7 +20,7 @@ from test_follow import CALM, HEADER, LATER, PATIENCE, shapes_of, text_of
 
 HERE = os.path.dirname(os.path.abspath(__file__))
 sys.path[:0] = [os.path.join(HERE, "..")]
-from differential import history  # noqa: E402
+from differential import history, history_of_many  # noqa: E402
 
 PROGRAM = os.environ["SNAPJUDGE_PROGRAM"]
 # How many recordings are drawn, how many of folders, and how many to be written in several ways.
@@ -121,6 +121,15 @@ class Beside(unittest.TestCase):
             text = text_of(changed(history(draw)[1:], draw))
             seen[self.same(text, draw.choice((1, 2, 5)))] += 1
         self.assertTrue(min(seen) > DRAWN / 50, seen)
+
+    def test_drawn_recordings_with_many_writers_have_the_same_lines(self):
+        draw, seen, refused = random.Random(40), [0] * 4, 0
+        for _ in range(DRAWN):
+            text = text_of(changed(history_of_many(draw)[1:], draw))
+            seen[self.same(text, draw.choice((1, 2, 5)), "--writers", "many")] += 1
+            refused += ": writer\n" in by_program(text)[1]
+        self.assertTrue(min(seen) > DRAWN / 50, seen)
+        self.assertTrue(refused > DRAWN / 4, refused)
 
     def test_drawn_recordings_with_stamps_have_the_same_lines(self):
         draw, seen = random.Random(37), [0] * 4

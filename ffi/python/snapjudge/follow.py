@@ -14,7 +14,7 @@ import sys
 import time
 import traceback
 
-from snapjudge import MOST_EVENTS, STATUSES, report
+from snapjudge import MOST_EVENTS, STATUSES, WRITERS, report
 from snapjudge.bags import BYTES_AN_EVENT, FAILED, PIECE, REFUSED, UNOPENED, USUAL
 from snapjudge.cluster import INTERRUPTED, KINDS, Unable, Words, is_utf8, limit, names_below, natural, positive, say, shown, write
 from snapjudge.windows import HEADER, PLAIN, RECORD, STAMPED, Cutter, Reader, Refusal, Waiting, require, window_of
@@ -164,7 +164,7 @@ class Follow:
     def __init__(self, path, words, is_asked):
         self._files, self._words, self._is_asked = Files(path), words, is_asked
         self._file = self._reader = None
-        self._waiting, self._cutter = Waiting(), Cutter(self._judge, words.events, words.most)
+        self._waiting, self._cutter = Waiting(), Cutter(self._judge, words.events, words.most, words.writers)
         self._passed, self._windows, self._events, self._views = time.monotonic(), 0, 0, 0
         # of each status how many windows have it, and the first
         self._counts, self._firsts = [0] * len(KINDS), [None] * len(KINDS)
@@ -273,7 +273,7 @@ class Follow:
         text, missed = window_of(events, left)
         more, number = b"", self._windows + 1
         try:
-            status, told = report(text, self._words.most)
+            status, told = report(text, self._words.most, writers=self._words.writers)
             code = STATUSES.index(status)
         except MemoryError:
             code = FAILED
@@ -358,6 +358,7 @@ def words_of(arguments):
                        help=f"end a window at its first such moment, once it has N events; the default is {LEAST}")
     words.add_argument("--most", metavar="N", type=limit, default=USUAL,
                        help=f"let a window have up to N events; the default is {USUAL}, and {MOST_EVENTS} is the most")
+    words.add_argument("--writers", choices=WRITERS, default="one", help="how many processes may write a component; the default is one")
     words.add_argument("--rounds", action="store_true", help="each file of the folder is a round, whose numbers begin at 1")
     words.add_argument("--keep", metavar="FOLDER", help="write each window that is not atomic into this folder")
     words.add_argument("--views", metavar="N", type=natural, default=0, help="refuse a recording of fewer than N completed views")

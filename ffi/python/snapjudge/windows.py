@@ -234,13 +234,15 @@ class Cutter:
 
     A window ends at the first such moment from `least` events on. If it would have more than `most`, or more bytes than a history of
     this many events may have, it ends at the last such moment in it. Each window goes to `emit`: its events, and what was left before
-    it.
+    it. With many writers each process may update each component, and its updates end in the order of their numbers.
     """
 
-    def __init__(self, emit, least, most=USUAL):
+    def __init__(self, emit, least, most=USUAL, writers="one"):
+        self._has_one_writer = writers == "one"
         self._emit, self._least, self._most, self._longest = emit, least, most, most * BYTES_AN_EVENT
-        # of each process its open call, in the order of their begins; of each component its process, its last number, and what was left
-        self._open, self._writers, self._numbers, self._left = {}, {}, {}, {}
+        # of each process its open call, in the order of their begins; of each component its process, its last number that began and
+        # that ended, and what was left
+        self._open, self._writers, self._numbers, self._ended, self._left = {}, {}, {}, {}, {}
         self._events, self._bytes, self._free = [], len(HEADER), 0
 
     def take(self, event):
@@ -260,12 +262,17 @@ class Cutter:
         if not event.is_begin:
             require(call, event.place, "idle")
             require(call.op == event.op, event.place, "otherop")
+            if call.op == b"update":
+                component, count, _ = call.data[0]
+                require(count == self._ended.get(component, 0) + 1, event.place, "order")
+                self._ended[component] = count
             del self._open[event.process]
             return
         require(not call, event.place, "busy")
         if event.op == b"update":
             component, count, _ = event.data[0]
-            require(self._writers.get(component, event.process) == event.process, event.place, "writer")
+            if self._has_one_writer:
+                require(self._writers.get(component, event.process) == event.process, event.place, "writer")
             require(count == self._numbers.get(component, 0) + 1, event.place, "number")
             self._writers[component], self._numbers[component] = event.process, count
         self._open[event.process] = event
@@ -293,7 +300,7 @@ class Cutter:
         for call in self._open.values():
             raise Refusal(call.place, "open", call)
         self.end()
-        self._numbers, self._left = {}, {}
+        self._numbers, self._ended, self._left = {}, {}, {}
 
     def end(self):
         """Ends the last window, in which calls may be open."""
