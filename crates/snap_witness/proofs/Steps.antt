@@ -13,6 +13,7 @@ use Rattle.snap_core.specs.UsualLimits.{greatest_limit}
 use Rattle.snap_core.specs.Refusals.{refusal_of}
 use Rattle.snap_core.proofs.Pushes.{history_back}
 use Rattle.snap_core.proofs.Picks.{picked, is_short}
+use Rattle.snap_core.specs.declared.writers.Writers.TheVariants.{One}
 use Rattle.snap_theory.proofs.Sides.{history_front}
 use Rattle.snap_theory.proofs.Kept.{from_kept, from_left}
 use Rattle.snap_theory.proofs.Entries.{AreSorted, sorted, sorted_tail, above}
@@ -118,6 +119,6 @@ none_refused keeps numbers es i d h s l t =
     let m = length-take i es in
     let all : kept_from keeps numbers 0 es ≡ (K ++ kept_event numbers (get_or es i d) ∷ []) ++ kept_from keeps numbers (i + 1) (drop (i + 1) es) =
     ap (kept_from keeps numbers 0) (sym (take-append-drop (i + 1) es)) ∙ kept_from_append keeps numbers 0 (i + 1) (take (i + 1) es) (drop (i + 1) es) (omega (arith, n, l)) ∙ ap (λ z. z ++ kept_from keeps numbers (i + 1) (drop (i + 1) es)) (kept_next keeps numbers es i d true l t) in
-    let a = (history_back K (kept_event numbers (get_or es i d)) (history_front (K ++ kept_event numbers (get_or es i d) ∷ []) (kept_from keeps numbers (i + 1) (drop (i + 1) es)) (subst IsHistory all h))).1 in
+    let a = (history_back K (kept_event numbers (get_or es i d)) (history_front One (K ++ kept_event numbers (get_or es i d) ∷ []) (kept_from keeps numbers (i + 1) (drop (i + 1) es)) (subst IsHistory all h))).1 in
     let short = kept_short keeps numbers 0 (take i es) in
     picked greatest_limit K (kept_event numbers (get_or es i d)) false false false false false false false (is_short greatest_limit K (omega (arith, short, m, l, s))) a.not_busy a.not_idle a.not_other a.writer a.number a.order
