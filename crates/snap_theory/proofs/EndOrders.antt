@@ -1,5 +1,5 @@
 -- On both sides of a quiet moment, updates of a component end in the order of their numbers.
-use Rattle.std.proofs.Common.{◌≡◌, ◌⊎◌, ℕ, ◌+◌, ◌-◌, ◌<◌, true, List, ◌∷◌, ◌++◌, map, length, Option, Some, None, refl, sym, ap, ◌∙◌, subst, inl, inr, arith}
+use Rattle.std.proofs.Common.{◌≡◌, ℕ, ◌+◌, ◌-◌, ◌<◌, true, List, ◌∷◌, ◌++◌, length, Option, Some, None, refl, sym, ap, ◌∙◌, subst, inl, inr, arith}
 use Rattle.std.specs.List.{Contains}
 use Rattle.std.proofs.lemmas.Bool.{lt-ltb}
 use Rattle.snap_core.specs.declared.entry.Entry.{Entry}
@@ -12,9 +12,9 @@ use Rattle.snap_core.specs.Ordered.{EndInOrder}
 use Rattle.snap_core.specs.Regular.{IsUpdateOf}
 use Rattle.snap_core.proofs.Begun.{begins, update_event}
 use Rattle.snap_core.proofs.Ends.{begun_of, rises_part}
-use Rattle.snap_core.proofs.Facts.{Precedes, precedes_to}
+use Rattle.snap_core.proofs.Facts.{precedes_to}
 use Rattle.snap_core.proofs.Histories.{begins_part}
-use Rattle.snap_core.proofs.Lists.{In, In-from_Contains, Contains-from_In, In-append_left, In-append_right, In-append_cases}
+use Rattle.snap_core.proofs.Lists.{In, In-from_Contains, Contains-from_In, In-append_right, In-append_cases}
 use Rattle.snap_core.proofs.Members.{In-map, In-from_map}
 use Rattle.snap_theory.specs.Renumbered.{renumbered, renumbered_entry}
 use Rattle.snap_theory.specs.Windows.{IsQuiet, left_by}

@@ -31,21 +31,22 @@ origins {X} {Y} f xs (y ∷ ys) h = go (In-from_map f xs y (h y (inl refl))) (or
         there x (inr i) = r.there x i
 
 -- a split of a list of images
-pub record SplitOrigin {X Y : Type 0} (f : X → Y) (xs : List X) (before : List Y) (y : Y) : Type 0 where
+pub record SplitOrigin {X Y : Type 0} (f : X → Y) (xs : List X) (before : List Y) (y : Y) (after : List Y) : Type 0 where
   pub front : List X
   pub it : X
   pub back : List X
   pub split : xs ≡ front ++ it ∷ back
   pub is_front : map f front ≡ before
   pub is : f it ≡ y
+  pub is_back : map f back ≡ after
 
-behind : {X Y : Type 0} (f : X → Y) {xs : List X} {before : List Y} {y : Y} (x : X) (z : Y) → f x ≡ z → SplitOrigin f xs before y → SplitOrigin f (x ∷ xs) (z ∷ before) y
-behind f x z e r = record { front = x ∷ r.front; it = r.it; back = r.back; split = ap (λ w. x ∷ w) r.split; is_front = ap (λ w. w ∷ map f r.front) e ∙ ap (λ w. z ∷ w) r.is_front; is = r.is }
+behind : {X Y : Type 0} (f : X → Y) {xs : List X} {before : List Y} {y : Y} {after : List Y} (x : X) (z : Y) → f x ≡ z → SplitOrigin f xs before y after → SplitOrigin f (x ∷ xs) (z ∷ before) y after
+behind f x z e r = record { front = x ∷ r.front; it = r.it; back = r.back; split = ap (λ w. x ∷ w) r.split; is_front = ap (λ w. w ∷ map f r.front) e ∙ ap (λ w. z ∷ w) r.is_front; is = r.is; is_back = r.is_back }
 
-pub split_origin : {X Y : Type 0} (f : X → Y) (xs : List X) (before after : List Y) (y : Y) → map f xs ≡ before ++ y ∷ after → SplitOrigin f xs before y
+pub split_origin : {X Y : Type 0} (f : X → Y) (xs : List X) (before after : List Y) (y : Y) → map f xs ≡ before ++ y ∷ after → SplitOrigin f xs before y after
 split_origin f [] [] after y e = absurd (cc)
 split_origin f [] (z ∷ before) after y e = absurd (cc)
-split_origin f (x ∷ xs) [] after y e = record { front = []; it = x; back = xs; split = refl; is_front = refl; is = cc }
+split_origin f (x ∷ xs) [] after y e = record { front = []; it = x; back = xs; split = refl; is_front = refl; is = cc; is_back = cc }
 split_origin f (x ∷ xs) (z ∷ before) after y e = behind f x z (cc) (split_origin f xs before after y (cc))
 
 -- a map of calls that keeps precedence, and what kind each call is
@@ -53,7 +54,7 @@ pub record IsImage (f : Call → Call) (calls : List Call) : Type 0 where
   pub completed : (c : Call) → is_completed (f c) ≡ is_completed c
   pub update : (c : Call) → is_update (f c) ≡ is_update c
   pub view : (c : Call) → is_view (f c) ≡ is_view c
-  pub precedence : (a b : Call) → precedes (f a) (f b) ≡ precedes a b
+  pub precedence : (a b : Call) → In a calls → In b calls → precedes (f a) (f b) ≡ precedes a b
   pub apart : (a b : Call) → In a calls → In b calls → f a ≡ f b → a ≡ b
 
 -- what a view shows after a list, before and after the map
@@ -72,7 +73,7 @@ legal_image f calls left other m shows order o = record {
   only = All-from_In (Stands (map f calls)) (map f order) (λ c i. let x = In-from_map f order c i in subst (Stands (map f calls)) x.is (stands_image f calls m x.it (stands x.it x.there)));
   distinct = AllPairs-from_Pairs (λ a b. a ≢ b) (map f order) (Pairs-map (λ a b. a ≢ b) f order (Pairs-weaker (λ a b. a ≢ b) (λ a b. f a ≢ f b) order (λ a b i j n s. n (m.apart a b (among a i) (among b j) s)) (Pairs-from_AllPairs (λ a b. a ≢ b) order o.distinct)));
   completed = completed;
-  precedence = AllPairs-from_Pairs Kept (map f order) (Pairs-map Kept f order (Pairs-weaker Kept (λ a b. Kept (f a) (f b)) order (λ a b i j h. m.precedence b a ∙ h) (Pairs-from_AllPairs Kept order o.precedence)));
+  precedence = AllPairs-from_Pairs Kept (map f order) (Pairs-map Kept f order (Pairs-weaker Kept (λ a b. Kept (f a) (f b)) order (λ a b i j h. m.precedence b a (among b j) (among a i) ∙ h) (Pairs-from_AllPairs Kept order o.precedence)));
   latest = latest;
 }
   where
@@ -102,7 +103,7 @@ legal_origin f calls left other m shows order among o = record {
   only = All-from_In (Stands calls) order only;
   distinct = AllPairs-from_Pairs (λ a b. a ≢ b) order (Pairs-weaker (λ a b. f a ≢ f b) (λ a b. a ≢ b) order (λ a b i j n s. n (ap f s)) (Pairs-from_map (λ a b. a ≢ b) f order (Pairs-from_AllPairs (λ a b. a ≢ b) (map f order) o.distinct)));
   completed = completed;
-  precedence = AllPairs-from_Pairs Kept order (Pairs-weaker (λ a b. Kept (f a) (f b)) Kept order (λ a b i j h. sym (m.precedence b a) ∙ h) (Pairs-from_map Kept f order (Pairs-from_AllPairs Kept (map f order) o.precedence)));
+  precedence = AllPairs-from_Pairs Kept order (Pairs-weaker (λ a b. Kept (f a) (f b)) Kept order (λ a b i j h. sym (m.precedence b a (among b j) (among a i)) ∙ h) (Pairs-from_map Kept f order (Pairs-from_AllPairs Kept (map f order) o.precedence)));
   latest = latest;
 }
   where

@@ -28,6 +28,8 @@ mod WorkedVerdicts
 mod WorkedVersions
 pub mod Intervals
 pub mod CutCalls
+mod Telling
+mod ToldOrders
 pub mod Backward
 pub mod Chain
 pub mod Forward

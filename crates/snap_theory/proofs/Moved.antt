@@ -120,7 +120,7 @@ moved_image n m es = record {
   completed = moved_completed n m;
   update = moved_update n m;
   view = moved_view n m;
-  precedence = moved_precedes n m;
+  precedence = λ a b i j. moved_precedes n m a b;
   apart = λ a b i j e. of_one_number es a b i j (let s : n + a.number ≡ n + b.number = ap (λ (z : Call). z.number) e in omega (arith, s));
 }
 

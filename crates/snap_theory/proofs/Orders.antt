@@ -9,7 +9,7 @@ use Rattle.snap_core.specs.Orders.{IsLegalOrder, IsAtomic, is_completed, last_wr
 use Rattle.snap_core.proofs.Lists.{In, In-from_Contains, Contains-from_In, In-append_left, In-append_right, In-append_cases, Pairs, Pairs-left, Pairs-right, Pairs-append, Pairs-weaker, Pairs-from_AllPairs, AllPairs-from_Pairs, In-get_or}
 use Rattle.snap_core.proofs.Facts.{AreCalls}
 use Rattle.snap_core.proofs.Begun.{Compared, alike, first, second, compare_splits}
-use Rattle.snap_theory.specs.Windows.{IsLegalOrderFrom, IsLegalInOrderFrom, IsAtomicFrom, IsAtomicInOrderFrom}
+use Rattle.snap_theory.specs.Windows.{IsLegalOrderFrom, IsAtomicFrom, IsAtomicInOrderFrom}
 use Rattle.snap_theory.proofs.Legal.{Kept, Stands}
 use Rattle.snap_theory.specs.Versions.{IsLaterVersion, IsLegalInOrder, IsAtomicInOrder}
 use Rattle.snap_theory.proofs.Last.{later, same_last, last_behind}

@@ -76,7 +76,7 @@ image es = record {
   completed = λ c. refl;
   update = λ c. refl;
   view = λ c. refl;
-  precedence = λ a b. refl;
+  precedence = λ a b i j. refl;
   apart = λ a b i j e. of_one_number es a b i j (ap (λ z. z.number) e);
 }
 

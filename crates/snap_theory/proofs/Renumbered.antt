@@ -195,7 +195,7 @@ image_by left es = record {
   completed = by_completed left;
   update = by_update left;
   view = by_view left;
-  precedence = by_precedes left;
+  precedence = λ a b i j. by_precedes left a b;
   apart = λ a b i j e. of_one_number es a b i j (ap (λ (z : Call). z.number) e);
 }
 

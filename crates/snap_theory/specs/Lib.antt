@@ -1,4 +1,5 @@
 pub mod Windows
+pub mod Telling
 pub mod Renumbered
 pub mod WindowLaws
 pub mod Conditions
