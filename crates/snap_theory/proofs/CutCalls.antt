@@ -27,7 +27,7 @@ use Rattle.snap_theory.proofs.Orders.{All-from_In}
 
 -- what a cut keeps of a call
 
-same_operation : (calls : List Call) (c : Call) → (cut calls c).operation ≡ c.operation
+pub same_operation : (calls : List Call) (c : Call) → (cut calls c).operation ≡ c.operation
 same_operation calls c = go c.operation refl
   where
     go : (o : Operation) → c.operation ≡ o → (cut_by calls o c).operation ≡ o
@@ -41,11 +41,11 @@ same_number calls c = go c.operation
     go (Updates e) = refl
     go (Views answer) = refl
 
-cut_update : (calls : List Call) (c : Call) (e : Entry) → c.operation ≡ Updates e → cut calls c ≡ cut_by calls (Updates e) c
+pub cut_update : (calls : List Call) (c : Call) (e : Entry) → c.operation ≡ Updates e → cut calls c ≡ cut_by calls (Updates e) c
 cut_update calls c e w = ap (λ o. cut_by calls o c) w
 
 -- a call is an update, or the same when it is cut
-kind : (calls : List Call) (c : Call) → ((e : Entry) × (c.operation ≡ Updates e)) ⊎ (cut calls c ≡ c)
+pub kind : (calls : List Call) (c : Call) → ((e : Entry) × (c.operation ≡ Updates e)) ⊎ (cut calls c ≡ c)
 kind calls c = go c.operation refl
   where
     go : (o : Operation) → c.operation ≡ o → ((e : Entry) × (c.operation ≡ Updates e)) ⊎ (cut_by calls o c ≡ c)
@@ -78,10 +78,10 @@ later_kept calls a b h d e u w = h d e (sym (same_operation calls a) ∙ u) (sym
 later_back : (calls : List Call) (a b : Call) → IsLaterVersion (cut calls a) (cut calls b) → IsLaterVersion a b
 later_back calls a b h d e u w = h d e (same_operation calls a ∙ u) (same_operation calls b ∙ w)
 
-own_up : (c : Call) (e : Entry) → c.operation ≡ Updates e → UpTo e c
+pub own_up : (c : Call) (e : Entry) → c.operation ≡ Updates e → UpTo e c
 own_up c e w = record { entry = e; writes = w; component = refl; number = omega arith }
 
-own_from : (c : Call) (e : Entry) → c.operation ≡ Updates e → FromOn e c
+pub own_from : (c : Call) (e : Entry) → c.operation ≡ Updates e → FromOn e c
 own_from c e w = record { entry = e; writes = w; component = refl; number = omega arith }
 
 -- a cut call begins no earlier, and ends no later
@@ -108,7 +108,7 @@ unfolding is_completed
 done_of c place e = ap is_some e
 
 -- so what precedes still does
-precedes_still : (calls : List Call) (a b : Call) → In a calls → In b calls → precedes a b ≡ true → precedes (cut calls a) (cut calls b) ≡ true
+pub precedes_still : (calls : List Call) (a b : Call) → In a calls → In b calls → precedes a b ≡ true → precedes (cut calls a) (cut calls b) ≡ true
 precedes_still calls a b i j h =
     let p = precedes_to a b h in
     let end = ends_earlier calls a p.place i p.ends in

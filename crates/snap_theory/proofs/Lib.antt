@@ -30,6 +30,7 @@ pub mod Intervals
 pub mod CutCalls
 mod Telling
 mod ToldOrders
+mod CutEvents
 pub mod Backward
 pub mod Chain
 pub mod Forward

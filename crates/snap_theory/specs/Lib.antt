@@ -1,5 +1,6 @@
 pub mod Windows
 pub mod Telling
+pub mod CutEvents
 pub mod Renumbered
 pub mod WindowLaws
 pub mod Conditions

@@ -1,5 +1,7 @@
 //! Laws of ordered histories: several processes may write a component, and its updates begin and end in the order of their numbers.
+ghost use Rattle.snap_theory.specs.CutEvents.{CutEventsKeepAtomic};
 ghost use Rattle.snap_theory.specs.Intervals.{CuttingKeepsAtomic, NothingLeftIsNotAtomic, CutCallsAreInOrder};
+ghost use Rattle.snap_theory.specs.Telling.{TellingKeepsAtomic};
 ghost use Rattle.snap_theory.specs.VersionLaws.{HistoriesAreOrdered, LegalOrdersRise, AtomicIsInOrder, OrderedPrintsLegalOrder, LegalInOrderHasNoFault, AtomicInOrderExactly, OrderedConditionsExactly, OrderedRegularExactly, AtomicInOrderIsMonotone, OrderedPrintedAlone, OrderedKeysGiveOrder, OrderedUpdatesAreAlone, OrderedFaultsRise, OrderedChoiceKeepsCalls, OrderedFaultHasWitness, AtomicInOrderWithoutWitness};
 
 /// A history, with one writer of each component, is ordered. In each of its legal orders the numbers of each component rise, so
@@ -53,4 +55,12 @@ pub fn cutting_keeps_atomic()
     ensures atomic { CuttingKeepsAtomic }
     ensures nothing_left { NothingLeftIsNotAtomic }
     ensures in_order { CutCallsAreInOrder }
+{}
+
+/// The begins and the ends of the cut calls, in the order of their places, are events again. If something is left of each update, these
+/// events are atomic in order exactly when those of the store are. For this it is enough that they tell the calls: events that tell
+/// calls are atomic in order exactly when the calls are.
+pub fn cut_events_keep_atomic()
+    ensures telling { TellingKeepsAtomic }
+    ensures atomic { CutEventsKeepAtomic }
 {}
