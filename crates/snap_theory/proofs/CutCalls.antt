@@ -1,5 +1,5 @@
 -- Cutting the updates of a store that tells their order keeps whether some legal order keeps the numbers rising.
-use Rattle.std.proofs.Common.{◌≡◌, ◌≢◌, ◌⊎◌, ℕ, ◌<◌, ◌≤◌, suc, Bool, true, false, List, [], ◌∷◌, ◌++◌, map, length, get_or, Option, Some, None, refl, sym, ap, ◌∙◌, subst, inl, inr, arith}
+use Rattle.std.proofs.Common.{◌≡◌, ◌≢◌, ◌↔◌, ◌⊎◌, ℕ, ◌<◌, ◌≤◌, suc, Bool, true, false, List, [], ◌∷◌, ◌++◌, map, length, get_or, Option, Some, None, refl, sym, ap, ◌∙◌, subst, inl, inr, arith}
 use Rattle.std.specs.Prelude.{is_some}
 use Rattle.std.specs.List.{AllPairs, Contains}
 use Rattle.std.proofs.lemmas.Bool.{false≢true, cases_lt}
@@ -7,22 +7,20 @@ use Rattle.std.proofs.Math.Path.{subst₂}
 use Rattle.std.proofs.lemmas.List.{map-append, get_or-map, get_or_default, length-map}
 use Rattle.std.proofs.lemmas.List.Elements.{All-contains}
 use Rattle.snap_core.specs.declared.entry.Entry.{Entry}
-use Rattle.snap_core.specs.declared.event.Event.{Event}
 use Rattle.snap_core.specs.Entries.{entry_of}
 use Rattle.snap_core.specs.Calls.{Call, Operation, Updates, Views, calls_of, entries_of, is_answer, precedes, is_view, shown}
 use Rattle.snap_core.specs.Orders.{IsLegalOrder, is_completed, is_update, is_writing, last_written, written_by}
 use Rattle.snap_core.specs.Regular.{IsViewOf, IsUpdateOf}
-use Rattle.snap_core.proofs.Ends.{answered_part, rises_part}
 use Rattle.snap_core.proofs.Facts.{precedes_to, precedes_from}
 use Rattle.snap_core.proofs.Lists.{In, In-from_Contains, Contains-from_In, In-append_left, In-get_or, around, Pairs-weaker, Pairs-from_AllPairs, AllPairs-from_Pairs}
 use Rattle.snap_core.proofs.Members.{In-map, In-from_map, Pairs-map, Pairs-from_map}
-use Rattle.snap_theory.specs.Versions.{IsLaterVersion, IsLegalInOrder}
-use Rattle.snap_theory.specs.Intervals.{AreVersions, CutCallsAreInOrder, cut, cut_by, cut_calls, CuttingKeepsAtomic, NothingLeftIsNotAtomic}
+use Rattle.snap_theory.specs.Versions.{IsAtomicInOrder, IsLaterVersion, IsLegalInOrder}
+use Rattle.snap_theory.specs.Intervals.{AreVersions, CutCallsAreInOrder, cut, cut_by, cut_calls, CuttingKeepsAtomic, earliest_end, latest_begin, NothingLeftIsNotAtomic}
 use Rattle.snap_theory.proofs.Intervals.{UpTo, FromOn, begins_by, latest, ends_by, earliest}
 use Rattle.snap_theory.proofs.Images.{origins, split_origin}
 use Rattle.snap_theory.proofs.LastWritten.{last_written_from}
 use Rattle.snap_theory.proofs.Legal.{Kept, Stands}
-use Rattle.snap_theory.proofs.Moved.{of_one_number}
+use Rattle.snap_theory.proofs.Timed.{AreMade, made}
 use Rattle.snap_theory.proofs.Orders.{All-from_In}
 
 -- what a cut keeps of a call
@@ -34,7 +32,7 @@ same_operation calls c = go c.operation refl
     go (Updates e) w = refl
     go (Views answer) w = w
 
-same_number : (calls : List Call) (c : Call) → (cut calls c).number ≡ c.number
+pub same_number : (calls : List Call) (c : Call) → (cut calls c).number ≡ c.number
 same_number calls c = go c.operation
   where
     go : (o : Operation) → (cut_by calls o c).number ≡ c.number
@@ -130,8 +128,8 @@ done_still calls c i d = go c.ended refl d
     go (Some place) e t = ap is_some (ends_earlier calls c place i e).is
     go None e t = absurd (false≢true t)
 
-apart_by : (es : List Event) (a b : Call) → In a (calls_of es) → In b (calls_of es) → cut (calls_of es) a ≡ cut (calls_of es) b → a ≡ b
-apart_by es a b i j e = of_one_number es a b i j (sym (same_number (calls_of es) a) ∙ ap (λ z. z.number) e ∙ same_number (calls_of es) b)
+apart_by : (calls : List Call) → AreMade calls → (a b : Call) → In a calls → In b calls → cut calls a ≡ cut calls b → a ≡ b
+apart_by calls made a b i j e = made.one a b (Contains-from_In _ _ i) (Contains-from_In _ _ j) (sym (same_number calls a) ∙ ap (λ z. z.number) e ∙ same_number calls b)
 
 -- the place of a call in a list
 
@@ -159,22 +157,22 @@ record BeginIn (order : List Call) (high place : ℕ) : Type 0 where
   before : at.place ≤ high
   begun : call.begun ≡ place
 
-stands_in : (es : List Event) (order : List Call) → IsLegalInOrder (calls_of es) order → (c : Call) → In c order → Stands (calls_of es) c
-stands_in es order o c i = All-contains (Stands (calls_of es)) order c o.legal.only (Contains-from_In order c i)
+stands_in : (calls : List Call) (order : List Call) → IsLegalInOrder calls order → (c : Call) → In c order → Stands calls c
+stands_in calls order o c i = All-contains (Stands calls) order c o.legal.only (Contains-from_In order c i)
 
-among_calls : (es : List Event) (order : List Call) → IsLegalInOrder (calls_of es) order → (c : Call) → In c order → In c (calls_of es)
-among_calls es order o c i = In-from_Contains _ _ (stands_in es order o c i).0
+among_calls : (calls : List Call) (order : List Call) → IsLegalInOrder calls order → (c : Call) → In c order → In c calls
+among_calls calls order o c i = In-from_Contains _ _ (stands_in calls order o c i).0
 
 -- each update stands in a legal order: it has ended, or a view shows it
-each_stands : (es : List Event) → AreVersions (calls_of es) → (order : List Call) → IsLegalInOrder (calls_of es) order → (c : Call) (e : Entry) → In c (calls_of es) → c.operation ≡ Updates e → In c order
-each_stands es versions order o c e i w = go c.ended refl
+each_stands : (calls : List Call) → AreMade calls → AreVersions calls → (order : List Call) → IsLegalInOrder calls order → (c : Call) (e : Entry) → In c calls → c.operation ≡ Updates e → In c order
+each_stands calls made versions order o c e i w = go c.ended refl
   where
-    u : IsUpdateOf (calls_of es) c e
+    u : IsUpdateOf calls c e
     u = record { there = Contains-from_In _ _ i; writes = w }
 
-    shown_one : (r : Call) (s : Entry) → IsViewOf (calls_of es) r → shown r e.component ≡ Some s → s.number ≡ e.number → In c order
+    shown_one : (r : Call) (s : Entry) → IsViewOf calls r → shown r e.component ≡ Some s → s.number ≡ e.number → In c order
     shown_one r s v h n =
-        let r_done = answered_part es r v in
+        let r_done = made.answered r v in
         let there = In-from_Contains _ _ (o.legal.completed r v.there (done_of r r_done.place r_done.ends)) in
         let a = around r order there in
         let last = sym (o.legal.latest a.before a.after r a.same v.completed e.component) ∙ h in
@@ -183,7 +181,7 @@ each_stands es versions order o c e i w = go c.ended refl
           | inr x ↦
               let front : In x.call order = subst (In x.call) (sym a.same) (In-append_left x.call a.before (r ∷ a.after) x.there) in
               let entry : x.entry ≡ s = let g : Some x.entry ≡ Some s = sym x.last ∙ last in cc in
-              let other : IsUpdateOf (calls_of es) x.call x.entry = record { there = Contains-from_In _ _ (among_calls es order o x.call front); writes = x.writes.writes } in
+              let other : IsUpdateOf calls x.call x.entry = record { there = Contains-from_In _ _ (among_calls calls order o x.call front); writes = x.writes.writes } in
               subst (λ z. In z order) (versions.alone x.call c x.entry e other u x.writes.component (ap (λ z. z.number) entry ∙ n)) front
         ]
 
@@ -204,20 +202,17 @@ stands_no_later order o a b d e u w same l p q = elim (cases_lt q.place p.place)
 
 -- a legal order of the calls, which keeps the numbers rising, and of the calls as they are cut
 
-cut_order : (es : List Event) → AreVersions (calls_of es) → (order : List Call) → IsLegalInOrder (calls_of es) order → IsLegalInOrder (cut_calls (calls_of es)) (map (cut (calls_of es)) order)
-cut_order es versions order o = record { legal = legal; rising = rising }
+cut_order : (calls : List Call) → AreMade calls → AreVersions calls → (order : List Call) → IsLegalInOrder calls order → IsLegalInOrder (cut_calls calls) (map (cut calls) order)
+cut_order calls made versions order o = record { legal = legal; rising = rising }
   where
-    calls : List Call
-    calls = calls_of es
-
     f : Call → Call
     f = cut calls
 
     among : (c : Call) → In c order → In c calls
-    among c i = among_calls es order o c i
+    among c i = among_calls calls order o c i
 
     each : (c : Call) (e : Entry) → In c calls → c.operation ≡ Updates e → In c order
-    each c e i w = each_stands es versions order o c e i w
+    each c e i w = each_stands calls made versions order o c e i w
 
     rising : AllPairs IsLaterVersion (map f order)
     rising = AllPairs-from_Pairs IsLaterVersion (map f order) (Pairs-map IsLaterVersion f order (Pairs-weaker IsLaterVersion (λ a b. IsLaterVersion (f a) (f b)) order (λ a b i j h. later_kept calls a b h) (Pairs-from_AllPairs IsLaterVersion order o.rising)))
@@ -263,14 +258,14 @@ cut_order es versions order o = record { legal = legal; rising = rising }
     legal : IsLegalOrder (cut_calls calls) (map f order)
     legal = record {
       only = All-from_In (Stands (cut_calls calls)) (map f order) (λ c i. let x = In-from_map f order c i in subst (Stands (cut_calls calls)) x.is (stands_cut x.it x.there));
-      distinct = AllPairs-from_Pairs (λ a b. a ≢ b) (map f order) (Pairs-map (λ a b. a ≢ b) f order (Pairs-weaker (λ a b. a ≢ b) (λ a b. f a ≢ f b) order (λ a b i j n s. n (apart_by es a b (among a i) (among b j) s)) (Pairs-from_AllPairs (λ a b. a ≢ b) order o.legal.distinct)));
+      distinct = AllPairs-from_Pairs (λ a b. a ≢ b) (map f order) (Pairs-map (λ a b. a ≢ b) f order (Pairs-weaker (λ a b. a ≢ b) (λ a b. f a ≢ f b) order (λ a b i j n s. n (apart_by calls made a b (among a i) (among b j) s)) (Pairs-from_AllPairs (λ a b. a ≢ b) order o.legal.distinct)));
       completed = completed;
       precedence = precedence;
       latest = latest_in;
     }
       where
         stands_cut : (c : Call) → In c order → Stands (cut_calls calls) (f c)
-        stands_cut c i = (Contains-from_In _ _ (In-map f calls c (among c i)), elim (stands_in es order o c i).1 [ inl d ↦ inl (done_still calls c (among c i) d) | inr u ↦ inr (update_kept calls c ∙ u) ])
+        stands_cut c i = (Contains-from_In _ _ (In-map f calls c (among c i)), elim (stands_in calls order o c i).1 [ inl d ↦ inl (done_still calls c (among c i) d) | inr u ↦ inr (update_kept calls c ∙ u) ])
 
         completed : (c : Call) → Contains (cut_calls calls) c → is_completed c ≡ true → Contains (map f order) c
         completed c i d =
@@ -295,8 +290,8 @@ cut_order es versions order o = record { legal = legal; rising = rising }
             let view = sym (view_kept calls x.it) ∙ ap is_view x.is ∙ v in
             ap (λ z. shown z k) (sym x.is) ∙ shown_kept calls x.it k ∙ o.legal.latest x.front x.back x.it x.split view k ∙ sym (written_kept calls k None x.front) ∙ ap (last_written k None) x.is_front
 
-order_cut : (es : List Event) (order : List Call) → ((c : Call) → In c order → In c (calls_of es)) → IsLegalInOrder (cut_calls (calls_of es)) (map (cut (calls_of es)) order) → IsLegalInOrder (calls_of es) order
-order_cut es order among o = record {
+order_cut : (calls : List Call) → AreMade calls → (order : List Call) → ((c : Call) → In c order → In c calls) → IsLegalInOrder (cut_calls calls) (map (cut calls) order) → IsLegalInOrder calls order
+order_cut calls made order among o = record {
   legal = record {
     only = All-from_In (Stands calls) order only;
     distinct = AllPairs-from_Pairs (λ a b. a ≢ b) order (Pairs-weaker (λ a b. f a ≢ f b) (λ a b. a ≢ b) order (λ a b i j n s. n (ap f s)) (Pairs-from_map (λ a b. a ≢ b) f order (Pairs-from_AllPairs (λ a b. a ≢ b) (map f order) o.legal.distinct)));
@@ -307,9 +302,6 @@ order_cut es order among o = record {
   rising = AllPairs-from_Pairs IsLaterVersion order (Pairs-weaker (λ a b. IsLaterVersion (f a) (f b)) IsLaterVersion order (λ a b i j h. later_back calls a b h) (Pairs-from_map IsLaterVersion f order (Pairs-from_AllPairs IsLaterVersion (map f order) o.rising)));
 }
   where
-    calls : List Call
-    calls = calls_of es
-
     f : Call → Call
     f = cut calls
 
@@ -328,31 +320,31 @@ order_cut es order among o = record {
         let there = In-from_Contains _ _ i in
         let j = o.legal.completed (f c) (Contains-from_In _ _ (In-map f calls c there)) (done_still calls c there d) in
         let x = In-from_map f order (f c) (In-from_Contains _ _ j) in
-        Contains-from_In _ _ (subst (λ z. In z order) (apart_by es x.it c (among x.it x.there) there x.is) x.there)
+        Contains-from_In _ _ (subst (λ z. In z order) (apart_by calls made x.it c (among x.it x.there) there x.is) x.there)
 
     latest_in : (before after : List Call) (r : Call) → order ≡ before ++ r ∷ after → is_view r ≡ true → (k : ℕ) → shown r k ≡ last_written k None before
     latest_in before after r s v k =
         let seen = o.legal.latest (map f before) (map f after) (f r) (ap (map f) s ∙ map-append f before (r ∷ after)) (view_kept calls r ∙ v) k in
         sym (shown_kept calls r k) ∙ seen ∙ written_kept calls k None before
 
-pub cutting_keeps_atomic : CuttingKeepsAtomic
-cutting_keeps_atomic es versions = (
-  λ a. (map (cut (calls_of es)) a.0, cut_order es versions a.0 a.1),
+-- cutting keeps whether some legal order keeps the numbers rising
+pub cutting : (calls : List Call) → AreMade calls → AreVersions calls → IsAtomicInOrder calls ↔ IsAtomicInOrder (cut_calls calls)
+cutting calls made versions = (
+  λ a. (map (cut calls) a.0, cut_order calls made versions a.0 a.1),
   λ a.
-      let among : (c : Call) → In c a.0 → In c (cut_calls (calls_of es)) = λ c i. In-from_Contains _ _ (All-contains (Stands (cut_calls (calls_of es))) a.0 c a.1.legal.only (Contains-from_In a.0 c i)).0 in
-      let x = origins (cut (calls_of es)) (calls_of es) a.0 among in
-      (x.list, order_cut es x.list x.there (subst (IsLegalInOrder (cut_calls (calls_of es))) (sym x.is) a.1)),
+      let among : (c : Call) → In c a.0 → In c (cut_calls calls) = λ c i. In-from_Contains _ _ (All-contains (Stands (cut_calls calls)) a.0 c a.1.legal.only (Contains-from_In a.0 c i)).0 in
+      let x = origins (cut calls) calls a.0 among in
+      (x.list, order_cut calls made x.list x.there (subst (IsLegalInOrder (cut_calls calls)) (sym x.is) a.1)),
 )
 
 -- an update of which nothing is left would have to stand both before and after another
-pub nothing_left_is_not_atomic : NothingLeftIsNotAtomic
-nothing_left_is_not_atomic es versions c e place u end less a =
-    let calls = calls_of es in
+pub nothing_left : (calls : List Call) → AreMade calls → AreVersions calls → (c : Call) (e : Entry) (place : ℕ) → IsUpdateOf calls c e → earliest_end calls e ≡ Some place → place < latest_begin calls e → IsAtomicInOrder calls → ⊥
+nothing_left calls made versions c e place u end less a =
     let i = In-from_Contains _ _ u.there in
     let x = earliest calls e place end in
     let y = latest calls e c i (own_up c e u.writes) in
-    let p = placed a.0 y.call (each_stands es versions a.0 a.1 y.call y.is.entry y.there y.is.writes) in
-    let q = placed a.0 x.call (each_stands es versions a.0 a.1 x.call x.is.entry x.there x.is.writes) in
+    let p = placed a.0 y.call (each_stands calls made versions a.0 a.1 y.call y.is.entry y.there y.is.writes) in
+    let q = placed a.0 x.call (each_stands calls made versions a.0 a.1 x.call x.is.entry x.there x.is.writes) in
     let before = precedes_from x.call y.call (record { place = place; ends = x.ended; before = omega (arith, less, y.begun) }) in
     elim (cases_lt p.place q.place) [
       | inl first ↦ absurd (false≢true (sym (subst₂ Kept (p.is c) (q.is c) (a.1.legal.precedence p.place q.place c first q.within)) ∙ before))
@@ -360,13 +352,13 @@ nothing_left_is_not_atomic es versions c e place u end less a =
           let order = stands_no_later a.0 a.1 y.call x.call y.is.entry x.is.entry y.is.writes x.is.writes (y.is.component ∙ sym x.is.component) (omega (arith, y.is.number, x.is.number)) p q in
           let same : p.place ≡ q.place = omega (arith, order, later) in
           let one : x.call ≡ y.call = sym (q.is c) ∙ ap (λ n. get_or a.0 n c) (sym same) ∙ p.is c in
-          absurd (let rises = rises_part es x.call place (Contains-from_In _ _ x.there) x.ended in omega (arith, rises, less, y.begun, ap (λ z. z.begun) one))
+          absurd (let rises = made.rises x.call place (Contains-from_In _ _ x.there) x.ended in omega (arith, rises, less, y.begun, ap (λ z. z.begun) one))
     ]
 
 -- once they are cut, updates of a component begin and end in the order of their numbers
-pub cut_calls_are_in_order : CutCallsAreInOrder
-cut_calls_are_in_order es a b d e u w same less =
-    let calls = calls_of es in
+pub cut_in_order : (calls : List Call) (a b : Call) (d e : Entry) → IsUpdateOf calls a d → IsUpdateOf calls b e → d.component ≡ e.component → d.number ≤ e.number →
+    ((cut calls a).begun ≤ (cut calls b).begun) × ((place : ℕ) → (cut calls b).ended ≡ Some place → (end : ℕ) × ((cut calls a).ended ≡ Some end) × (end ≤ place))
+cut_in_order calls a b d e u w same less =
     let first = cut_update calls a d u.writes in
     let second = cut_update calls b e w.writes in
     let x = latest calls d a (In-from_Contains _ _ u.there) (own_up a d u.writes) in (
@@ -377,3 +369,14 @@ cut_calls_are_in_order es a b d e u w same less =
           let down = ends_by calls d y.call place y.there (record { entry = y.is.entry; writes = y.is.writes; component = y.is.component ∙ sym same; number = let l = y.is.number in omega (arith, l, less) }) y.ended in
           (down.end, ap (λ z. z.ended) first ∙ down.is, down.by),
     )
+
+-- the same of the calls of events
+
+pub cutting_keeps_atomic : CuttingKeepsAtomic
+cutting_keeps_atomic es = cutting (calls_of es) (made es)
+
+pub nothing_left_is_not_atomic : NothingLeftIsNotAtomic
+nothing_left_is_not_atomic es = nothing_left (calls_of es) (made es)
+
+pub cut_calls_are_in_order : CutCallsAreInOrder
+cut_calls_are_in_order es = cut_in_order (calls_of es)

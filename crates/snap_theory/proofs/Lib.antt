@@ -26,11 +26,21 @@ pub mod OrderLaws
 mod WorkedOrders
 mod WorkedVerdicts
 mod WorkedVersions
+pub mod Timed
 pub mod Intervals
 pub mod CutCalls
 mod Telling
 mod ToldOrders
-mod CutEvents
+mod TurnsTold
+mod Matched
+mod OrderTold
+mod Ranked
+pub mod CutEvents
+pub mod LeftOut
+pub mod Counted
+pub mod Numbered
+pub mod Versioned
+mod WorkedTelling
 pub mod Backward
 pub mod Chain
 pub mod Forward

@@ -35,7 +35,7 @@ before_to a b t = elim (or_cases _ _ t) [
   | inr h ↦ let p = and_parts _ _ h in inr (eqb-true _ _ p.0, ltb-true a.number b.number p.1)
 ]
 
-not_both : (a b : Moment) → IsBefore a b → IsBefore b a → ⊥
+pub not_both : (a b : Moment) → IsBefore a b → IsBefore b a → ⊥
 not_both a b (inl l) (inl m) = omega (arith, l, m)
 not_both a b (inl l) (inr (p, n)) = omega (arith, l, p)
 not_both a b (inr (p, n)) (inl m) = omega (arith, m, p)
@@ -111,20 +111,20 @@ told ms c = record {
   ended = ended_in (λ place. index ms (end_of c place)) c.ended;
 }
 
-process_begin : (p : ℕ) (o : Operation) → process_of (begin_event p o) ≡ p
+pub process_begin : (p : ℕ) (o : Operation) → process_of (begin_event p o) ≡ p
 process_begin p (Updates e) = refl
 process_begin p (Views answer) = refl
 
-process_end : (p : ℕ) (o : Operation) → process_of (end_event p o) ≡ p
+pub process_end : (p : ℕ) (o : Operation) → process_of (end_event p o) ≡ p
 process_end p (Updates e) = refl
 process_end p (Views None) = refl
 process_end p (Views (Some es)) = refl
 
-opens : (p : ℕ) (o : Operation) → IsBegin (begin_event p o)
+pub opens : (p : ℕ) (o : Operation) → IsBegin (begin_event p o)
 opens p (Updates e) = tt
 opens p (Views answer) = tt
 
-not_opening : (p : ℕ) (o : Operation) → IsBegin (end_event p o) → ⊥
+pub not_opening : (p : ℕ) (o : Operation) → IsBegin (end_event p o) → ⊥
 not_opening p (Updates e) h = h
 not_opening p (Views None) h = h
 not_opening p (Views (Some es)) h = h
@@ -133,20 +133,20 @@ module _ (calls : List Call) (events : List Event) (s : AreSequential calls) (t 
   abbrev pub ms : List Moment
   ms = t.moments
 
-  rising : Pairs IsBefore ms
+  pub rising : Pairs IsBefore ms
   rising = Pairs-from_AllPairs IsBefore ms t.rising
 
-  begin_in : (c : Call) → Contains calls c → In (begin_of c) ms
+  pub begin_in : (c : Call) → Contains calls c → In (begin_of c) ms
   begin_in c i = In-from_Contains _ _ (t.all (begin_of c) (c, i, inl refl))
 
-  end_in : (c : Call) (place : ℕ) → Contains calls c → c.ended ≡ Some place → In (end_of c place) ms
+  pub end_in : (c : Call) (place : ℕ) → Contains calls c → c.ended ≡ Some place → In (end_of c place) ms
   end_in c place i e = In-from_Contains _ _ (t.all (end_of c place) (c, i, inr (place, e, refl)))
 
   -- one of two splits
-  early : (front : List Moment) (m : Moment) (back : List Moment) → ms ≡ front ++ m ∷ back → (x : Moment) → In x front → IsBefore x m
+  pub early : (front : List Moment) (m : Moment) (back : List Moment) → ms ≡ front ++ m ∷ back → (x : Moment) → In x front → IsBefore x m
   early front m back is x i = Pairs-across IsBefore front (m ∷ back) (subst (Pairs IsBefore) is rising) x m i (inl refl)
 
-  late : (front : List Moment) (m : Moment) (back : List Moment) → ms ≡ front ++ m ∷ back → (x : Moment) → In x back → IsBefore m x
+  pub late : (front : List Moment) (m : Moment) (back : List Moment) → ms ≡ front ++ m ∷ back → (x : Moment) → In x back → IsBefore m x
   late front m back is x i = (Pairs-right IsBefore front (m ∷ back) (subst (Pairs IsBefore) is rising)).0 x i
 
   index_of : (front : List Moment) (m : Moment) (back : List Moment) → ms ≡ front ++ m ∷ back → (index ms m ≡ length front) × (begin_index ms m ≡ begins (heard front))
@@ -155,17 +155,25 @@ module _ (calls : List Call) (events : List Event) (s : AreSequential calls) (t 
       (ap (λ z. index z m) is ∙ at.0, ap (λ z. begin_index z m) is ∙ at.1)
 
   -- a moment that comes after another one stands behind it
-  behind : (front : List Moment) (m : Moment) (back : List Moment) → ms ≡ front ++ m ∷ back → (x : Moment) → In x ms → IsBefore m x → In x back
+  pub behind : (front : List Moment) (m : Moment) (back : List Moment) → ms ≡ front ++ m ∷ back → (x : Moment) → In x ms → IsBefore m x → In x back
   behind front m back is x i h = elim (In-append_cases x front (m ∷ back) (subst (In x) is i)) [
     | inl j ↦ absurd (not_both m x h (early front m back is x j))
     | inr (inl e) ↦ absurd (not_itself m (subst (IsBefore m) (sym e) h))
     | inr (inr j) ↦ j
   ]
 
+  -- and one that comes before it stands in front
+  pub ahead : (front : List Moment) (m : Moment) (back : List Moment) → ms ≡ front ++ m ∷ back → (x : Moment) → In x ms → IsBefore x m → In x front
+  ahead front m back is x i h = elim (In-append_cases x front (m ∷ back) (subst (In x) is i)) [
+    | inl j ↦ j
+    | inr (inl e) ↦ absurd (not_itself m (subst (λ z. IsBefore z m) (sym e) h))
+    | inr (inr j) ↦ absurd (not_both x m h (late front m back is x j))
+  ]
+
   -- what comes next of the process of a call, after its begin
   pub data After (c : Call) (front back : List Moment) : Type 0 where
-    unended : c.ended ≡ None → next_place c.process (suc (length (heard front))) (heard back) ≡ None → next_answer c.process (heard back) ≡ None → After c front back
-    ended : (place : ℕ) (mid rest : List Moment) → c.ended ≡ Some place → back ≡ mid ++ end_of c place ∷ rest → next_place c.process (suc (length (heard front))) (heard back) ≡ Some (suc (length (heard front)) + length mid) → next_answer c.process (heard back) ≡ answer_at (end_event c.process c.operation) → After c front back
+    unended : c.ended ≡ None → next_place c.process (suc (length (heard front))) (heard back) ≡ None → next_answer c.process (heard back) ≡ None → events_of c.process (heard back) ≡ [] → After c front back
+    ended : (place : ℕ) (mid rest : List Moment) → c.ended ≡ Some place → back ≡ mid ++ end_of c place ∷ rest → next_place c.process (suc (length (heard front))) (heard back) ≡ Some (suc (length (heard front)) + length mid) → next_answer c.process (heard back) ≡ answer_at (end_event c.process c.operation) → events_of c.process (heard mid) ≡ [] → After c front back
 
   moment_place : (m : Moment) (d : Call) → Contains calls d → (m ≡ begin_of d) ⊎ ((place : ℕ) × (d.ended ≡ Some place) × (m ≡ end_of d place)) → d.begun ≤ m.place
   moment_place m d i (inl e) = omega (arith, ap (λ (z : Moment). z.place) e)
@@ -182,7 +190,7 @@ module _ (calls : List Call) (events : List Event) (s : AreSequential calls) (t 
   moment_process m d (inl e) = ap (λ (z : Moment). process_of z.event) e ∙ process_begin d.process d.operation
   moment_process m d (inr (place, h, e)) = ap (λ (z : Moment). process_of z.event) e ∙ process_end d.process d.operation
 
-  no_moment : (p : ℕ) (xs : List Moment) (m : Moment) → In m xs → process_of m.event ≡ p → events_of p (heard xs) ≡ [] → ⊥
+  pub no_moment : (p : ℕ) (xs : List Moment) (m : Moment) → In m xs → process_of m.event ≡ p → events_of p (heard xs) ≡ [] → ⊥
   no_moment p xs m i same none =
       let a = around m xs i in
       no_event p (heard a.before) m.event (heard a.after) same (sym (ap (events_of p) (ap heard a.same ∙ map-append (λ z. z.event) a.before (m ∷ a.after))) ∙ none)
@@ -191,14 +199,14 @@ module _ (calls : List Call) (events : List Event) (s : AreSequential calls) (t 
   after_begin m c (inl l) = omega (arith, l)
   after_begin m c (inr (p, n)) = omega (arith, p)
 
-  after : (c : Call) → Contains calls c → (front back : List Moment) → ms ≡ front ++ begin_of c ∷ back → After c front back
+  pub after : (c : Call) → Contains calls c → (front back : List Moment) → ms ≡ front ++ begin_of c ∷ back → After c front back
   after c i front back is = go (next c.process (suc (length (heard front))) (heard back))
     where
       ends_behind : (place : ℕ) → c.ended ≡ Some place → In (end_of c place) back
       ends_behind place e = behind front (begin_of c) back is (end_of c place) (end_in c place i e) (inl (s.rises c place i e))
 
       go : Next c.process (suc (length (heard front))) (heard back) → After c front back
-      go (nothing a b ans) = unended (at c.ended refl) a ans
+      go (nothing a b ans) = unended (at c.ended refl) a ans b
         where
           at : (o : Option ℕ) → c.ended ≡ o → c.ended ≡ None
           at None e = e
@@ -236,6 +244,7 @@ module _ (calls : List Call) (events : List Event) (s : AreSequential calls) (t 
               ended place o.front o.back (ap (λ (z : Call). z.ended) same ∙ h) (o.split ∙ ap (λ z. o.front ++ z ∷ o.back) is_end)
               (at ∙ ap (λ z. Some (suc (length (heard front)) + z)) (ap length (sym o.is_front) ∙ length-map o.front (λ m. m.event)))
               (ans ∙ ap answer_at (sym o.is ∙ ap (λ (z : Moment). z.event) is_end))
+              (ap (events_of c.process) o.is_front ∙ none)
           by w (inr (inl first)) =
               let p = precedes_to c d first in
               let end = end_of c p.place in
@@ -254,18 +263,18 @@ module _ (calls : List Call) (events : List Event) (s : AreSequential calls) (t 
   operation_told c i front back a = go c.operation refl a
     where
       views : (answer : Option (List Entry)) → c.operation ≡ Views answer → After c front back → next_answer c.process (heard back) ≡ answer
-      views None o (unended e n ans) = ans
-      views (Some es) o (unended e n ans) = absurd (let h = s.answered c es i o in let q : None ≡ Some h.0 = sym e ∙ h.1 in cc)
-      views None o (ended place mid rest e is n ans) = absurd (let q : None ≡ Some place = sym (s.unanswered c i o) ∙ e in cc)
-      views (Some es) o (ended place mid rest e is n ans) = ans ∙ ap (λ z. answer_at (end_event c.process z)) o
+      views None o (unended e n ans none) = ans
+      views (Some es) o (unended e n ans none) = absurd (let h = s.answered c es i o in let q : None ≡ Some h.0 = sym e ∙ h.1 in cc)
+      views None o (ended place mid rest e is n ans none) = absurd (let q : None ≡ Some place = sym (s.unanswered c i o) ∙ e in cc)
+      views (Some es) o (ended place mid rest e is n ans none) = ans ∙ ap (λ z. answer_at (end_event c.process z)) o
 
       go : (o : Operation) → c.operation ≡ o → After c front back → operation_at (begin_event c.process o) (heard back) ≡ o
       go (Updates e) o b = refl
       go (Views answer) o b = ap Views (views answer o b)
 
   ended_told : (c : Call) → (front back : List Moment) → ms ≡ front ++ begin_of c ∷ back → After c front back → next_place c.process (suc (length (heard front))) (heard back) ≡ ended_in (λ place. index ms (end_of c place)) c.ended
-  ended_told c front back is (unended e n ans) = n ∙ ap (ended_in (λ place. index ms (end_of c place))) (sym e)
-  ended_told c front back is (ended place mid rest e split n ans) =
+  ended_told c front back is (unended e n ans none) = n ∙ ap (ended_in (λ place. index ms (end_of c place))) (sym e)
+  ended_told c front back is (ended place mid rest e split n ans none) =
       let whole : ms ≡ (front ++ begin_of c ∷ mid) ++ end_of c place ∷ rest = is ∙ ap (λ z. front ++ begin_of c ∷ z) split ∙ sym (append_assoc front (begin_of c ∷ mid) (end_of c place ∷ rest)) in
       let at : suc (length (heard front)) + length mid ≡ index ms (end_of c place) =
       omega (arith, (index_of (front ++ begin_of c ∷ mid) (end_of c place) rest whole).0, length-append front (begin_of c ∷ mid), length-map front (λ m. m.event)) in

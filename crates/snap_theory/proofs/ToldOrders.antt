@@ -34,7 +34,7 @@ in_order_of_members : (left : ℕ → Option Entry) (xs ys : List Call) → ((c 
 in_order_of_members left xs ys to from a = (a.0, record { legal = legal_of_members left xs ys a.0 to from a.1.legal; rising = a.1.rising })
 
 -- an earlier moment has a lower index
-index_rises : (ms : List Moment) (a b : Moment) → In a ms → IsBefore a b → index ms a < index ms b
+pub index_rises : (ms : List Moment) (a b : Moment) → In a ms → IsBefore a b → index ms a < index ms b
 index_rises ms a b i h = count_lt (λ x. is_moment_before x a) (λ x. is_moment_before x b) ms (λ x j t. before_from x b (before_all x a b (before_to x a t) h)) a i (itself_not a) (before_from a b h)
 
 module _ (calls : List Call) (events : List Event) (s : AreSequential calls) (t : Tells calls events) where

@@ -64,7 +64,7 @@ are_ordered es = all_take_turns es && (are_numbered [] es && end_in_order (calls
 
 -- what passes the test is ordered
 
-all_in : {X : Type 0} (p : X → Bool) (xs : List X) (x : X) → list_all p xs ≡ true → In x xs → p x ≡ true
+pub all_in : {X : Type 0} (p : X → Bool) (xs : List X) (x : X) → list_all p xs ≡ true → In x xs → p x ≡ true
 all_in p [] x h i = absurd i
 all_in p (y ∷ ys) x h (inl e) = subst (λ z. p z ≡ true) e (and_parts (p y) (list_all p ys) h).0
 all_in p (y ∷ ys) x h (inr i) = all_in p ys x (and_parts (p y) (list_all p ys) h).1 i
@@ -92,7 +92,7 @@ turns_by [] h = tt
 turns_by (b ∷ []) h = begins_by b h
 turns_by (b ∷ e ∷ rest) h = let p = and_parts (is_end b e) (take_turns rest) h in (ends_by b e p.0, turns_by rest p.1)
 
-well_formed_by : (es : List Event) → all_take_turns es ≡ true → IsWellFormed es
+pub well_formed_by : (es : List Event) → all_take_turns es ≡ true → IsWellFormed es
 well_formed_by es h p = go (events_of p es) refl
   where
     go : (own : List Event) → events_of p es ≡ own → TakeTurns (events_of p es)

@@ -1,6 +1,7 @@
 pub mod Windows
 pub mod Telling
 pub mod CutEvents
+pub mod Versioned
 pub mod Renumbered
 pub mod WindowLaws
 pub mod Conditions

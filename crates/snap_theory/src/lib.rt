@@ -18,8 +18,9 @@ pub use order_laws::{
 };
 pub use process_laws::processes_do_not_matter;
 pub use version_laws::{
-    cutting_keeps_atomic, histories_are_ordered, ordered_by_faults, ordered_faults_have_witnesses,
-    ordered_faults_rise, ordered_printed_order_is_alone, ordered_shrinking_lemma,
+    cut_events_keep_atomic, cutting_keeps_atomic, histories_are_ordered, ordered_by_faults,
+    ordered_faults_have_witnesses, ordered_faults_rise, ordered_printed_order_is_alone,
+    ordered_shrinking_lemma, versions_keep_atomic,
 };
 pub use window_laws::{beginnings_may_be_empty, windows_join, windows_may_be_renumbered};
 pub use witness_laws::{atomic_without_witness, choices_keep_calls, faults_have_witnesses};

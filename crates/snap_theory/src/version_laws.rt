@@ -1,5 +1,6 @@
 //! Laws of ordered histories: several processes may write a component, and its updates begin and end in the order of their numbers.
 ghost use Rattle.snap_theory.specs.CutEvents.{CutEventsKeepAtomic};
+ghost use Rattle.snap_theory.specs.Versioned.{VersionsKeepAtomic, VersionsAreOrdered, ContradictionIsNotAtomic};
 ghost use Rattle.snap_theory.specs.Intervals.{CuttingKeepsAtomic, NothingLeftIsNotAtomic, CutCallsAreInOrder};
 ghost use Rattle.snap_theory.specs.Telling.{TellingKeepsAtomic};
 ghost use Rattle.snap_theory.specs.VersionLaws.{HistoriesAreOrdered, LegalOrdersRise, AtomicIsInOrder, OrderedPrintsLegalOrder, LegalInOrderHasNoFault, AtomicInOrderExactly, OrderedConditionsExactly, OrderedRegularExactly, AtomicInOrderIsMonotone, OrderedPrintedAlone, OrderedKeysGiveOrder, OrderedUpdatesAreAlone, OrderedFaultsRise, OrderedChoiceKeepsCalls, OrderedFaultHasWitness, AtomicInOrderWithoutWitness};
@@ -63,4 +64,14 @@ pub fn cutting_keeps_atomic()
 pub fn cut_events_keep_atomic()
     ensures telling { TellingKeepsAtomic }
     ensures atomic { CutEventsKeepAtomic }
+{}
+
+/// A store may record its updates as they are sent, with versions that have gaps. A pending update that no view shows is left out, the
+/// others get their rank as number, and each is cut to the times that the order of versions allows. The events that tell these
+/// calls are an ordered history, and atomic in order exactly when those of the store are. If two updates contradict time, the events
+/// of the store are not atomic in order.
+pub fn versions_keep_atomic()
+    ensures atomic { VersionsKeepAtomic }
+    ensures ordered { VersionsAreOrdered }
+    ensures contradiction { ContradictionIsNotAtomic }
 {}
