@@ -12,7 +12,7 @@ use Rattle.snap_core.proofs.Lists.{Contains-from_In}
 use Rattle.snap_core.proofs.Ends.{IsEndOf, call_end, answered_part}
 use Rattle.snap_index.specs.declared.call.Call.{Call}
 use Rattle.snap_index.specs.IndexedCalls.{as_indexed, answered_by, answer_of}
-use Rattle.snap_index.specs.inside.Tables.{answered_at}
+use Rattle.snap_index.specs.Answered.{answered_at}
 use Rattle.snap_index.proofs.IndexedCalls.{mapped_some}
 use Rattle.snap_core.proofs.Members.{In-slice_get}
 

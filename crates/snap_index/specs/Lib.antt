@@ -1,3 +1,4 @@
+pub mod Answered
 pub mod IndexedCalls
 pub mod Rows
 pub mod Updates

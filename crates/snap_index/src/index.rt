@@ -6,10 +6,9 @@ ghost use Rattle.snap_core.specs.Entries.{component_count};
 ghost use Rattle.snap_core.specs.Bounded.{IsBoundedBy, IsBoundedOrdered};
 ghost use Rattle.snap_index.specs.IndexedCalls.{as_indexed, number_of, write_of, entries_shown, answer_of};
 ghost use Rattle.snap_index.specs.Updates.{is_update_of, updates_of, is_pending};
-ghost use Rattle.snap_index.specs.inside.Tables.{answered_at};
 
 use crate::call::{Call, CallOp, Write};
-use crate::listing::list_calls;
+use crate::listing::{answered, list_calls};
 use crate::table::UpdateTable;
 use snap_core::{Event, History, OneWriter, Ownership, View};
 use std::alloc::{AllocError, Global};
@@ -43,16 +42,6 @@ impl<'h, O: Ownership> Model for Index<'h, O> {
     ghost view = { λ a. a.history.now.events };
 
     ghost invariant = { λ a. IsIndex a.history.now.events a.calls.items a.views.items a.updates a.pending };
-}
-
-// What the event at the end of a call answers, if the call has an end and the event ends a view.
-fn answered(events: &[Event], ended: Option<u32>) -> Option<&View>
-    ensures { option_copied result ≡ answered_at events.now ended }
-{
-    match events.get(ended? as usize)? {
-        Event::EndView { view, .. } => Some(view),
-        _ => None,
-    }
 }
 
 impl<'h, O: Ownership> Index<'h, O> {

@@ -8,3 +8,4 @@ mod table;
 
 pub use call::{Call, CallOp, Write};
 pub use index::Index;
+pub use listing::{answered, list_calls, process_limit};

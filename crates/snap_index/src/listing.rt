@@ -1,12 +1,14 @@
 //! The calls of a history, listed by one pass from its end.
 ghost use Rattle.std.specs.Prelude.{◌≡◌, ◌≤◌, ◌<◌, ℕ, length, get_or, map, IfOk};
+ghost use Rattle.std.specs.Option.{option_copied};
 ghost use Rattle.snap_core.specs.Calls.{calls_of};
 ghost use Rattle.snap_core.specs.declared.event.Event.{Event};
 ghost use Rattle.snap_core.specs.Events.{event_cap, process_of};
+ghost use Rattle.snap_index.specs.Answered.{answered_at};
 ghost use Rattle.snap_index.specs.IndexedCalls.{as_indexed, begun_by as spec_begun_by};
 
 use crate::call::{Call, CallOp};
-use snap_core::Event;
+use snap_core::{Event, View};
 use std::alloc::{AllocError, Global};
 
 fn begun_by(event: &Event) -> Option<CallOp>
@@ -19,8 +21,8 @@ fn begun_by(event: &Event) -> Option<CallOp>
     }
 }
 
-// One more than the greatest process of some events; 0 if there are none.
-fn process_limit(events: &[Event]) -> usize
+/// One more than the greatest process of some events; 0 if there are none.
+pub fn process_limit(events: &[Event]) -> usize
     ensures { (i : ℕ) (e : Event) → i < length events.now → process_of (get_or events.now i e) < result }
 {
     let mut limit = 0;
@@ -30,8 +32,8 @@ fn process_limit(events: &[Event]) -> usize
     limit
 }
 
-// The calls in the order of their begins, by one pass from the end.
-pub(crate) fn list_calls(alloc: Global, events: &[Event]) -> Result<Vec<Call>, AllocError>
+/// The calls of a list of events in the order of their begins, by one pass from the end. The error is lack of memory.
+pub fn list_calls(alloc: Global, events: &[Event]) -> Result<Vec<Call>, AllocError>
     requires { length events.now ≤ event_cap }
     ensures { IfOk result (λ calls. calls.items ≡ map as_indexed (calls_of events.now)) }
 {
@@ -57,4 +59,14 @@ pub(crate) fn list_calls(alloc: Global, events: &[Event]) -> Result<Vec<Call>, A
     }
     calls.reverse();
     Ok(calls)
+}
+
+/// What the event at the end of a call answers, if the call has an end and the event ends a view.
+pub fn answered(events: &[Event], ended: Option<u32>) -> Option<&View>
+    ensures { option_copied result ≡ answered_at events.now ended }
+{
+    match events.get(ended? as usize)? {
+        Event::EndView { view, .. } => Some(view),
+        _ => None,
+    }
 }

@@ -1,7 +1,6 @@
 -- What an index keeps of the calls of its history.
-use Rattle.std.specs.Prelude.{ℕ, ◌≡◌, ◌<◌, ◌-◌, ◌++◌, List, [], length, replicate, map, count_by, get_or, slice_get, Option, Some, None}
-use Rattle.std.specs.Option.{option_and_then}
-use Rattle.snap_core.specs.Calls.{answer_at, calls_of, views_of, Call as SpecCall}
+use Rattle.std.specs.Prelude.{ℕ, ◌≡◌, ◌<◌, ◌-◌, ◌++◌, List, [], length, replicate, map, count_by, get_or}
+use Rattle.snap_core.specs.Calls.{calls_of, views_of, Call as SpecCall}
 use Rattle.snap_core.specs.declared.entry.Entry.{Entry}
 use Rattle.snap_core.specs.declared.event.Event.{Event}
 use Rattle.snap_core.specs.Entries.{component_count}
@@ -15,11 +14,6 @@ use Rattle.snap_index.specs.Updates.{updates_of, is_pending}
 -- a list for each component; the last components may have none in `rows`
 abbrev pub padded : {A : Type 0} → List (List A) → List (List A)
 padded rows = rows ++ replicate (component_count - length rows) []
-
--- what the event at the end of a call answers
-abbrev pub answered_at : List Event → Option ℕ → Option (List Entry)
-answered_at events None = None
-answered_at events (Some end) = option_and_then answer_at (slice_get events end)
 
 -- what is kept of a completed view
 abbrev pub number_kept : CompletedView → ℕ

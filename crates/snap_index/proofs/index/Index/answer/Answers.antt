@@ -1,7 +1,7 @@
 use Rattle.std.proofs.Common.{sym, ap, ◌∙◌}
 use Rattle.std.specs.Option.{option_copied}
 use Rattle.snap_index.specs.declared.call.Call.{Call}
-use Rattle.snap_index.specs.inside.Tables.{answered_at}
+use Rattle.snap_index.specs.Answered.{answered_at}
 use Rattle.snap_index.proofs.Ends.{call_answer}
 use Rattle.snap_index.proofs.LookUps.{seen}
 use Rattle.snap_index.proofs.index.Index.answer.Goals as goal

@@ -7,7 +7,8 @@ use Rattle.snap_index.specs.declared.call.CallOp.TheVariants.{Update}
 use Rattle.snap_index.specs.declared.call.Call.{Call}
 use Rattle.snap_index.specs.declared.index.CompletedView.{CompletedView}
 use Rattle.snap_index.specs.IndexedCalls.{as_indexed, answered_by, answer_of}
-use Rattle.snap_index.specs.inside.Tables.{AreTables, answered_at}
+use Rattle.snap_index.specs.Answered.{answered_at}
+use Rattle.snap_index.specs.inside.Tables.{AreTables}
 use Rattle.snap_index.proofs.IndexedCalls.{call_count_within, count_is, indexed_read, numbered_there, update_from, word_fits}
 use Rattle.snap_index.proofs.Ends.{ended_answer}
 use Rattle.snap_index.proofs.Notes.{Shows, Puts, noted, none_noted, none_shown, one_shown, pending_few, pending_at, component_fits, updates_of_update, updates_of_view}
