@@ -4,3 +4,4 @@ pub mod OneLine
 pub mod RoomFacts
 pub mod LookupFacts
 pub mod WriteFacts
+mod StampedTextFacts

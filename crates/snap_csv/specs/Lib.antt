@@ -2,3 +2,4 @@ pub mod Answers
 pub mod OneLine
 pub mod Writing
 pub mod inside
+pub mod StampedAnswers

@@ -25,7 +25,8 @@ use Rattle.snap_format.specs.declared.refusal.ReadRefusal.TheVariants as refusal
 use Rattle.snap_format.specs.declared.stamped.Stamped.{Stamped}
 use Rattle.snap_text.specs.Fields.{Fields}
 use Rattle.snap_format.specs.Stamps.{NoneOf, nothing, places_of, repeat_fault, shape_at, shape_fault, stamped_from, stamped_in, stamped_row, stamps_of}
-use Rattle.snap_format.specs.Stamping.{FirstRecords, FirstRepeat, HasSeen, ReadsStamped, RefusesStamps, repeats_at}
+use Rattle.snap_format.specs.StampedTexts.{RefusesShapes}
+use Rattle.snap_format.specs.Stamping.{FirstRecords, FirstRepeat, HasSeen, ReadsStamped, repeats_at}
 use Rattle.snap_format.proofs.StampOnce.{flips, one_by_key}
 
 -- ---- a sort
@@ -245,8 +246,8 @@ places_rise limit rows xs h k lt =
     let there = (h.each (k + 1) next).numbered in
     omega (arith, a, b, here, there)
 
-pub repeat_stops : (limit : Limit) (rows : List Fields) (xs : List Stamped) (place : ℕ) → FirstRecords limit rows xs → FirstRepeat xs place → RefusesStamps limit rows (refusals.Text place faults.Repeated)
-repeat_stops limit rows xs place h r = inl (record {
+pub repeat_stops : (limit : Limit) (rows : List Fields) (xs : List Stamped) (place : ℕ) → FirstRecords limit rows xs → FirstRepeat xs place → RefusesShapes limit rows (refusals.Text place faults.Repeated)
+repeat_stops limit rows xs place h r = record {
   i = r.i;
   record_is = r.record_is ∙ (h.each r.i r.below).numbered;
   first = record {
@@ -254,11 +255,11 @@ repeat_stops limit rows xs place h r = inl (record {
     here = fault_here limit rows xs h r.i r.below ∙ rw r.here refl;
     first = λ j lt. fault_here limit rows xs h j (omega (arith, r.below, lt)) ∙ rw (r.first j lt) refl;
   };
-})
+}
 
-pub fault_stops : (limit : Limit) (rows : List Fields) (xs : List Stamped) (e : ReadRefusal) → ReadsStamped limit rows xs (Err e) → IsDistinct (λ a b. a == b) (stamps_of xs) → RefusesStamps limit rows e
+pub fault_stops : (limit : Limit) (rows : List Fields) (xs : List Stamped) (e : ReadRefusal) → ReadsStamped limit rows xs (Err e) → IsDistinct (λ a b. a == b) (stamps_of xs) → RefusesShapes limit rows e
 fault_stops limit rows xs (refusals.Text p f) (h, stops) apart =
-    inl (record {
+    record {
       i = length xs;
       record_is = stops.1;
       first = record {
@@ -266,7 +267,7 @@ fault_stops limit rows xs (refusals.Text p f) (h, stops) apart =
         here = still_faulty limit (length xs) (stamps_of (stamped_in (take (length xs) rows))) (get_or rows (length xs) []) f stops.2;
         first = no_fault limit rows xs h (none_repeats xs apart);
       };
-    })
+    }
 fault_stops limit rows xs refusals.Device (h, stops) apart = stops
 fault_stops limit rows xs refusals.Memory (h, stops) apart = tt
 

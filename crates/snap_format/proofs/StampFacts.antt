@@ -1,5 +1,5 @@
 -- Reading the records of a text with stamps, and their events in turn.
-use Rattle.std.proofs.Common.{◌≡◌, ◌<◌, ◌≤◌, ◌+◌, ◌^◌, ◌++◌, inl, inr, ℕ, suc, true, false, List, [], ◌∷◌, length, get_or, take, drop, Some, None, Ok, Err, refl, arith, ◌∙◌, sym, ap, subst, add-one}
+use Rattle.std.proofs.Common.{◌≡◌, ◌<◌, ◌≤◌, ◌+◌, ◌^◌, ◌++◌, inl, inr, ℕ, suc, true, false, List, [], ◌∷◌, length, get_or, take, drop, Some, None, Result, Ok, Err, refl, arith, ◌∙◌, sym, ap, subst, add-one}
 use Rattle.snap_core.specs.declared.limit.Limit.{Limit}
 use Rattle.std.specs.Prelude.{◌==◌, ◌≢◌, nat_le}
 use Rattle.std.specs.Global.{Vec}
@@ -7,16 +7,19 @@ use Rattle.std.specs.List.Sorted.{IsPermutation, IsStrictlyIncreasing}
 use borrow.Author.Count.{below_more}
 use Rattle.std.proofs.lemmas.Bool.{cases_lt, le-leb}
 use Rattle.std.proofs.lemmas.Bool.Decides.{nat_tests}
+use Rattle.std.proofs.lemmas.List.Sorted.{length_permutation}
 use Rattle.std.proofs.lemmas.List.{drop_all, get_or_append_left, length-append, length-drop, map-append}
 use Rattle.std.proofs.Math.Seq.{drop-cons, get_or-append_seam, take-suc}
 use Rattle.snap_core.specs.Limited.{LimitedEvents}
 use Rattle.snap_core.specs.declared.event.Event.{Event}
+use Rattle.snap_text.specs.declared.fault.TextFault.{TextFault}
 use Rattle.snap_text.specs.declared.fault.TextFault.TheVariants as faults
 use Rattle.snap_format.specs.declared.refusal.ReadRefusal.{ReadRefusal}
 use Rattle.snap_format.specs.declared.refusal.ReadRefusal.TheVariants as refusals
 use Rattle.snap_format.specs.declared.stamped.Stamped.{Stamped}
 use Rattle.snap_text.specs.Fields.{Fields, event_of, number_at}
-use Rattle.snap_format.specs.Stamps.{InOrder, NoneOf, events_of, nothing, order_at, places_of, repeat_fault, shape_at, shape_fault, stamped_in, stamped_row, stamps_of}
+use Rattle.snap_format.specs.Stamps.{InOrder, NoneOf, events_of, nothing, order_at, places_of, repeat_fault, shape_fault, stamped_from, stamped_in, stamped_row, stamps_of, with_stamped}
+use Rattle.snap_format.specs.StampedTexts.{AreStamped, RefusesShapes}
 use Rattle.snap_format.specs.Stamping.{AnswersStamps, FirstRecords, IsRecord, ReadsStamped, RefusesNext, RefusesStamped, RefusesStamps, RefusesTurns, TakesStamped, TakesTurns}
 use Rattle.snap_format.specs.Taking.{FailsFields, TakesEvent}
 use Rattle.snap_format.proofs.ReadFacts.{at_drop, full_fails}
@@ -57,7 +60,7 @@ unfolding stamped_row
 has_event t a p o d at x h g = rw (← h, g) refl
 
 -- a record is taken only where the history is not full
-has_room : (limit : Limit) (n : ℕ) (earlier : List ℕ) (r : Fields) → shape_fault limit n earlier r ≡ None → n < limit.events
+pub has_room : (limit : Limit) (n : ℕ) (earlier : List ℕ) (r : Fields) → shape_fault limit n earlier r ≡ None → n < limit.events
 unfolding shape_fault
 has_room limit n earlier r h = elim (cases_lt n limit.events) [
   | inl lt ↦ lt
@@ -169,16 +172,36 @@ turns_more limit xs left rest old new y place x m l yx t =
 
 -- ---- the whole
 
-in_order : (rows : List Fields) (xs ys : List Stamped) → xs ≡ stamped_in rows → IsPermutation xs ys → IsStrictlyIncreasing (stamps_of ys) → InOrder rows ys
+pub in_order : (rows : List Fields) (xs ys : List Stamped) → xs ≡ stamped_in rows → IsPermutation xs ys → IsStrictlyIncreasing (stamps_of ys) → InOrder rows ys
 in_order rows xs ys read p up = record { same = subst (λ (z : List Stamped). IsPermutation z ys) read p; rising = up }
 
-pub whole : (limit : Limit) (rows : List Fields) (xs ys : List Stamped) (h : LimitedEvents) (places : Vec ℕ) → NoneOf (shape_at limit rows) (length rows) × (xs ≡ stamped_in rows) → IsPermutation xs ys → IsStrictlyIncreasing (stamps_of ys)
+pub whole : (limit : Limit) (rows : List Fields) (ys : List Stamped) (h : LimitedEvents) (places : Vec ℕ) → AreStamped limit rows ys
     → TakesTurns limit ys (Ok h) → places.items ≡ places_of ys → AnswersStamps limit rows (Ok (h, places))
-whole limit rows xs ys h places read p up t is = (record { shapes = read.0; sorted = ys; order = in_order rows xs ys read.1 p up; fine = t.0; history = t.1 }, is, t.2)
+whole limit rows ys h places are t is = (record { shapes = are.shapes; sorted = ys; order = are.order; fine = t.0; history = t.1 }, is, t.2)
 
-pub turns_stop : (limit : Limit) (rows : List Fields) (xs ys : List Stamped) (e : ReadRefusal) → NoneOf (shape_at limit rows) (length rows) × (xs ≡ stamped_in rows) → IsPermutation xs ys → IsStrictlyIncreasing (stamps_of ys)
-    → RefusesTurns limit ys e → RefusesStamps limit rows e
-turns_stop limit rows xs ys (refusals.Text q f) read p up t =
-    inr (record { shapes = read.0; sorted = ys; order = in_order rows xs ys read.1 p up; i = t.0; first = t.1; record_is = t.2 })
-turns_stop limit rows xs ys refusals.Device read p up t = t
-turns_stop limit rows xs ys refusals.Memory read p up t = tt
+pub turns_stop : (limit : Limit) (rows : List Fields) (ys : List Stamped) (e : ReadRefusal) → AreStamped limit rows ys → RefusesTurns limit ys e → RefusesStamps limit rows e
+turns_stop limit rows ys (refusals.Text q f) are t = inr (record { shapes = are.shapes; sorted = ys; order = are.order; i = t.0; first = t.1; record_is = t.2 })
+turns_stop limit rows ys refusals.Device are t = t
+turns_stop limit rows ys refusals.Memory are t = tt
+
+pub shapes_stop : (limit : Limit) (rows : List Fields) (e : ReadRefusal) → RefusesShapes limit rows e → RefusesStamps limit rows e
+shapes_stop limit rows (refusals.Text q f) r = inl r
+shapes_stop limit rows refusals.Device r = r
+shapes_stop limit rows refusals.Memory r = tt
+
+-- no more events than the limit are taken
+fewer : (place : ℕ) (rows : List Fields) → length (stamped_from place rows) ≤ length rows
+fewer place [] = omega arith
+fewer place (r ∷ rows) = go (stamped_row r) (fewer (place + 1) rows)
+  where
+    go : (x : Result (ℕ × Event) TextFault) → length (stamped_from (place + 1) rows) ≤ length rows → length (with_stamped place x (stamped_from (place + 1) rows)) ≤ suc (length rows)
+    go (Ok x) h = omega (arith, h)
+    go (Err f) h = omega (arith, h)
+
+pub stamped_short : (limit : Limit) (rows : List Fields) (sorted : List Stamped) → AreStamped limit rows sorted → length sorted ≤ limit.events
+stamped_short limit [] sorted are = let same = length_permutation _ _ are.order.same in omega (arith, same)
+stamped_short limit (r ∷ rows) sorted are =
+    let same = length_permutation _ _ are.order.same in
+    let few = fewer 2 (r ∷ rows) in
+    let room = has_room limit (length rows) _ (get_or (r ∷ rows) (length rows) []) (are.shapes (length rows) (omega arith)) in
+    omega (arith, same, few, room)

@@ -3,6 +3,7 @@ pub mod Layout
 pub mod Faults
 pub mod Stamps
 pub mod Texts
+pub mod StampedTexts
 pub mod Records
 pub mod Laws
 pub mod Taking

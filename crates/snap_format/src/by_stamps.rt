@@ -1,6 +1,8 @@
 //! Records with stamps, and their events in the order of the stamps.
 ghost use Rattle.std.specs.Prelude.{◌≡◌, ◌∷◌, [], List, IfOk};
 ghost use Rattle.snap_format.specs.Stamps.{places_of};
+ghost use Rattle.snap_core.specs.declared.limit.Limit.{Limit};
+ghost use Rattle.snap_format.specs.StampedTexts.{OrdersStamped};
 ghost use Rattle.snap_format.specs.Stamping.{AnswersStamps, ReadsStamped, TakesStamped, TakesTurns};
 ghost use Rattle.snap_text.specs.Fields.{Fields};
 
@@ -61,16 +63,14 @@ fn take_turns(
     Ok(history)
 }
 
-/// The history of stamped events in the order of their stamps, and the number of each event's record; or the first fault.
-/// The events were taken from records, up to the first with a fault other than a repeated stamp. Sorted by stamps, they show
-/// whether one repeats.
-pub fn history_by_stamps(
+/// Stamped events in the order of their stamps, or the first fault of a record by itself. The events were taken from records, up to
+/// the first with a fault other than a repeated stamp. Sorted by stamps, they show whether one repeats.
+pub fn in_stamp_order(
     alloc: Global,
     mut stamped: Vec<Stamped>,
     read: Result<(), ReadRefusal>,
-    limit: Limit,
-) -> Result<(History<AnyWriters>, Vec<u32>), ReadRefusal>
-    ensures { (rows : List Fields) → ReadsStamped limit rows stamped.items read → AnswersStamps limit rows result }
+) -> Result<Vec<Stamped>, ReadRefusal>
+    ensures { (limit : Limit) (rows : List Fields) → ReadsStamped limit rows stamped.items read → OrdersStamped limit rows result }
 {
     sort_by_stamp(&mut stamped);
     if !are_rising(&stamped) {
@@ -80,6 +80,20 @@ pub fn history_by_stamps(
         });
     }
     read?;
-    let places = places_in(alloc, &stamped)?;
-    Ok((take_turns(alloc, stamped, limit)?, places))
+    Ok(stamped)
+}
+
+/// The history of stamped events in the order of their stamps, and the number of each event's record; or the first fault. The events
+/// were taken from records, as for `in_stamp_order`.
+pub fn history_by_stamps(
+    alloc: Global,
+    stamped: Vec<Stamped>,
+    read: Result<(), ReadRefusal>,
+    limit: Limit,
+) -> Result<(History<AnyWriters>, Vec<u32>), ReadRefusal>
+    ensures { (rows : List Fields) → ReadsStamped limit rows stamped.items read → AnswersStamps limit rows result }
+{
+    let sorted = in_stamp_order(alloc, stamped, read)?;
+    let places = places_in(alloc, &sorted)?;
+    Ok((take_turns(alloc, sorted, limit)?, places))
 }

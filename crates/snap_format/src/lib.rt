@@ -11,7 +11,7 @@ mod size;
 mod stamped;
 mod taking;
 
-pub use by_stamps::{history_by_stamps, take_stamped};
+pub use by_stamps::{history_by_stamps, in_stamp_order, take_stamped};
 pub use fault::fault_for;
 pub use fields::{are_header, are_stamped_header, event_of_record, stamped_of_record};
 pub use law::{
