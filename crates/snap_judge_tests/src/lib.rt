@@ -1,4 +1,4 @@
-//! Tests of the public calls on indexes, grids, tallies, pieces, orders and witnesses.
+//! Tests of the public calls on indexes, grids, tallies, pieces, orders, witnesses and stores.
 #![tactic(auto)]
 
 #[cfg(test)]
@@ -11,6 +11,8 @@ mod indexes;
 mod orders;
 #[cfg(test)]
 mod pieces;
+#[cfg(test)]
+mod stores;
 #[cfg(test)]
 mod tallies;
 #[cfg(test)]
