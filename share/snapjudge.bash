@@ -17,11 +17,11 @@ _snapjudge() {
   case ${COMP_WORDS[1]} in
     check | shrink | explain | draw | stats)
       words=--help
-      [[ ${COMP_WORDS[1]} != check ]] || words='--pieces --workers --files-from --null --recursive --quiet -q --views --events --writers --format --summary --follow --window --idle --late --no-progress --color --help'
+      [[ ${COMP_WORDS[1]} != check ]] || words='--pieces --workers --files-from --null --recursive --quiet -q --views --events --writers --format --summary --follow --window --idle --late --cut --no-progress --color --help'
       [[ ${COMP_WORDS[1]} != draw ]] || words='--svg --text --light --dark --calls --from --around --events --writers --help'
       [[ ${COMP_WORDS[1]} != stats ]] || words='--format --events --writers --help'
       [[ ${COMP_WORDS[1]} != shrink ]] || words='--draw --map --events --writers --help'
-      [[ ${COMP_WORDS[1]} != explain ]] || words='--draw --all --faults --events --writers --help'
+      [[ ${COMP_WORDS[1]} != explain ]] || words='--cut --draw --all --faults --events --writers --help'
       [[ $word == -* ]] || { mapfile -t COMPREPLY < <(compgen -f -- "$word"); return; }
       ;;
     record) words='--workers --rounds --events --seed --scan --judge --stamped --help' ;;

@@ -19,6 +19,7 @@ complete -c snapjudge -n '__fish_seen_subcommand_from check' -l follow -d 'Judge
 complete -c snapjudge -n '__fish_seen_subcommand_from check' -x -l window -d 'With --follow: events from which on a window ends'
 complete -c snapjudge -n '__fish_seen_subcommand_from check' -x -l idle -d 'With --follow: idle seconds after which it ends'
 complete -c snapjudge -n '__fish_seen_subcommand_from check' -x -l late -d 'With --follow: how many records late a record with a stamp may come'
+complete -c snapjudge -n '__fish_seen_subcommand_from check explain' -l cut -d 'Cut the updates of a store with versions first'
 complete -c snapjudge -n '__fish_seen_subcommand_from check' -l no-progress -d 'Show no progress'
 complete -c snapjudge -n '__fish_seen_subcommand_from check' -x -l color -a 'auto always never' -d 'When verdicts have colours'
 complete -c snapjudge -n '__fish_seen_subcommand_from shrink' -l draw -d 'Write the picture of the witness in its place'

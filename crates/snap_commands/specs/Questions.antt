@@ -3,6 +3,8 @@ use Rattle.std.specs.Prelude.{ℕ, Bool, true, false, List, Option, Some, None, 
 use Rattle.snap_explain.specs.declared.view.Entries.{Entries}
 use Rattle.snap_explain.specs.declared.view.Entries.TheVariants.{OfFault, Whole}
 use Rattle.snap_options.specs.declared.scheme.Scheme.TheVariants.{Light}
+use Rattle.snap_runs.specs.declared.asked.Asked.{Asked}
+use Rattle.snap_runs.specs.declared.asked.Asked.TheVariants as asks
 use Rattle.snap_runs.specs.declared.question.Question.{Question}
 use Rattle.snap_runs.specs.declared.question.Question.TheVariants as questions
 use Rattle.snap_words.specs.declared.drawing.Form.{Form}
@@ -27,6 +29,11 @@ entries_of false = OfFault
 abbrev pub explanation : Bool → Bool → ℕ → Question
 explanation true whole faults = questions.ExplanationDrawn (entries_of whole)
 explanation false whole faults = questions.Explanation (record { listed = entries_of whole; faults = faults })
+
+-- `check --cut --quiet`, `check --cut`
+abbrev pub report_of_cut : Bool → Asked
+report_of_cut true = asks.Verdicts
+report_of_cut false = asks.Report
 
 -- `draw`, `draw --svg`, `draw --text`
 abbrev pub picture : Form → Part → Question

@@ -1,13 +1,15 @@
 //! The question that each command asks about its text.
 ghost use Rattle.std.specs.Prelude.{◌≡◌, option_map, unwrap_or, vec_items};
 ghost use Rattle.snap_commands.specs.Pictures.{place_of as spec_place_of, usual_calls as spec_usual_calls, window_of as spec_window_of};
-ghost use Rattle.snap_commands.specs.Questions.{AsksCounts, entries_of as spec_entries_of, explanation as spec_explanation, name_of as spec_name_of, picture as spec_picture, witness as spec_witness};
+ghost use Rattle.snap_commands.specs.Questions.{AsksCounts, entries_of as spec_entries_of, explanation as spec_explanation, name_of as spec_name_of, picture as spec_picture, report_of_cut as spec_report_of_cut, witness as spec_witness};
 ghost use Rattle.snap_runs.specs.Answers.{IsAlwaysAnswered};
+ghost use Rattle.snap_runs.specs.StoreAnswers.{IsCertainlyAsked};
+ghost use Rattle.snap_runs.specs.declared.asked.Asked.TheVariants.{Answer};
 
 use snap_draw::{PAGE_CALLS, Place as At, Window};
 use snap_explain::{Detail, Entries};
 use snap_options::{LINE_CALLS, Scheme};
-use snap_runs::Question;
+use snap_runs::{Asked, Question};
 use snap_words::{Form, Part, Place, Shrunk};
 
 /// The question of `shrink`.
@@ -44,6 +46,26 @@ pub fn explanation<'n>(drawn: bool, whole: bool, faults: u32) -> Question<'n>
     } else {
         Question::Explanation(Detail { listed, faults })
     }
+}
+
+/// What `check --cut` asks: the report, or the lines of the verdicts alone.
+pub fn report_of_cut<'n>(quiet: bool) -> Asked<'n>
+    ensures asked { result ≡ spec_report_of_cut quiet }
+    ensures certain { IsCertainlyAsked result }
+{
+    if quiet {
+        Asked::Verdicts
+    } else {
+        Asked::Report
+    }
+}
+
+/// What `explain --cut` asks: the question of `explain`.
+pub fn explanation_of_cut<'n>(drawn: bool, whole: bool, faults: u32) -> Asked<'n>
+    ensures asked { result ≡ Answer (spec_explanation drawn whole faults) }
+    ensures certain { IsCertainlyAsked result }
+{
+    Asked::Answer(explanation(drawn, whole, faults))
 }
 
 // The name of the only text, as an object has it: - for standard input.

@@ -3,6 +3,7 @@ ghost use Rattle.std.specs.Prelude.{◌≡◌, Ok, IfOk, IsErr, IsSome, MatchRes
 ghost use Rattle.snap_check.specs.Statuses.{code_of};
 ghost use Rattle.snap_record.specs.Plans.{AreRounds, AreWorkers};
 ghost use Rattle.snap_runs.specs.Answers.{IsAlwaysAnswered};
+ghost use Rattle.snap_runs.specs.StoreAnswers.{IsCertainlyAsked};
 
 use crate::failure::Failure;
 use crate::files::open_only;
@@ -10,7 +11,7 @@ use crate::outlet::Outlet;
 use crate::questions::{counts, picture};
 use snap_check::{RunFault, Status};
 use snap_core::{Counted, Limit};
-use snap_runs::{Question, Rounds, Written, record_rounds, run};
+use snap_runs::{Asked, Question, Rounds, Written, record_rounds, run, run_cut};
 use snap_words::{Form, JobFault, Part, Place};
 use std::alloc::{AllocError, Global};
 use std::sync::Wait;
@@ -57,6 +58,26 @@ pub fn answer<Rt: Threads + Sync>(
     match answered(rt, host, file, question, limit)? {
         Some(status) => Ok(status.code()),
         None => unreachable!(),
+    }
+}
+
+/// Cuts the updates of the store in the only text to the times that their versions allow, answers what is asked of the history, and
+/// gives the exit status.
+pub fn cut<Rt: Threads + Sync>(
+    rt: &Rt,
+    host: &HostRuntime,
+    file: &Option<Vec<u8>>,
+    asked: Asked<'_>,
+    limit: Limit,
+) -> Result<u8, Failure>
+    requires { IsCertainlyAsked asked }
+{
+    let mut reader = Counted::new(open_only(host, file)?);
+    let mut writer = Counted::new(Outlet::new(host.stdout()));
+    match run_cut(rt, host.alloc(), asked, &mut reader, &mut writer, limit) {
+        Ok(Some(status)) => Ok(status.code()),
+        Ok(None) => unreachable!(),
+        Err(fault) => Err(Failure::of_run(fault, &writer.into_inner())),
     }
 }
 

@@ -12,8 +12,8 @@ use std::io::{Read, Write};
 use std::test::Fail;
 use std::thread::Threads;
 
-// How the run of a question ended.
-fn end_of_run(answer: Result<Option<Status>, RunFault>) -> &'static str {
+/// How the run of a question ended.
+pub(super) fn end_of_run(answer: Result<Option<Status>, RunFault>) -> &'static str {
     match answer {
         Ok(Some(status)) => end_of(Ok(status)),
         Ok(None) => "no status",

@@ -42,6 +42,7 @@ fn is_on(job: &Job, files: &[&str]) -> bool {
         Job::Check { input, .. } => are_named(&input.files, files),
         Job::Stats { files: names, .. } => are_named(names, files),
         Job::Follow { file, .. }
+        | Job::Cut { file, .. }
         | Job::Shrink { file, .. }
         | Job::Explain { file, .. }
         | Job::Draw { file, .. } => is_named(file, files),
@@ -72,10 +73,15 @@ const LINES_WITH_FILES: &[(&str, &[&str])] = &[
     ("snapjudge check -q a.csv", &["a.csv"]),
     ("snapjudge check --follow a.csv --idle 3", &["a.csv"]),
     ("snapjudge check --follow", &[]),
+    ("snapjudge check --cut a.csv", &["a.csv"]),
+    ("snapjudge check --quiet --cut", &[]),
+    ("snapjudge check - --cut --events 1048576", &["-"]),
     ("snapjudge shrink a.csv", &["a.csv"]),
     ("snapjudge shrink", &[]),
     ("snapjudge explain -", &["-"]),
     ("snapjudge explain", &[]),
+    ("snapjudge explain --cut --all a.csv", &["a.csv"]),
+    ("snapjudge explain --draw --cut", &[]),
     ("snapjudge draw a.csv", &["a.csv"]),
     ("snapjudge draw", &[]),
     ("snapjudge draw --svg -", &["-"]),
@@ -143,9 +149,9 @@ fn events_named(line: &str) -> usize {
     }
 }
 
-// The number of writers that a line names.
+// The number of writers that a line names. With a cut it is many.
 fn writers_named(line: &str) -> Writers {
-    if line.contains(" --writers many") {
+    if line.contains(" --writers many") || line.contains(" --cut") {
         Writers::Many
     } else {
         Writers::One
@@ -168,15 +174,23 @@ fn is_its_command(job: &Job, line: &str) -> bool {
         Job::Check { limit, .. } => {
             line.contains(" check")
                 && !line.contains(" --follow")
+                && !line.contains(" --cut")
                 && limit.writers() == writers_named(line)
         }
         Job::Follow { .. } => line.contains(" check") && line.contains(" --follow"),
+        Job::Cut { quiet, limit, .. } => {
+            line.contains(" check")
+                && line.contains(" --cut")
+                && *quiet == line.contains(" --quiet")
+                && is_limit(line, *limit)
+        }
         Job::Shrink { shrunk, limit, .. } => {
             line.contains(" shrink")
                 && is_drawn(line, *shrunk == Shrunk::Picture, *limit)
                 && (*shrunk == Shrunk::Map) == line.contains(" --map")
         }
         Job::Explain {
+            cut,
             drawn,
             whole,
             faults,
@@ -184,6 +198,7 @@ fn is_its_command(job: &Job, line: &str) -> bool {
             ..
         } => {
             line.contains(" explain")
+                && *cut == line.contains(" --cut")
                 && is_drawn(line, *drawn, *limit)
                 && *whole == line.contains(" --all")
                 && (*faults == 1000) == line.contains(" --faults")

@@ -11,6 +11,8 @@ mod checks;
 #[cfg(test)]
 mod counting;
 #[cfg(test)]
+mod cut_jobs;
+#[cfg(test)]
 mod devices;
 #[cfg(test)]
 mod explaining;
@@ -46,6 +48,8 @@ mod rounds;
 mod shrinking;
 #[cfg(test)]
 mod stamped_following;
+#[cfg(test)]
+mod stores;
 #[cfg(test)]
 mod telling;
 #[cfg(test)]

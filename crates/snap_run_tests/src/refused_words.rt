@@ -135,6 +135,12 @@ const OTHER_LINES: &[&str] = &[
     "snapjudge explain --svg",
     "snapjudge check --draw",
     "snapjudge draw --help",
+    "snapjudge check --cut=yes",
+    "snapjudge check --cut --rounds 3",
+    "snapjudge shrink --cut",
+    "snapjudge draw --cut",
+    "snapjudge stats --cut",
+    "snapjudge record --cut",
 ];
 
 // Whether a line gets a text on the usage.
@@ -208,8 +214,8 @@ fn said_of(alloc: Global, line: &str) -> Result<String, Fail> {
     }
 }
 
-// This is said about each line.
-fn expect_said(alloc: Global, known: &[(&str, &str)]) -> Result<(), Fail> {
+/// This is said about each line.
+pub(crate) fn expect_said(alloc: Global, known: &[(&str, &str)]) -> Result<(), Fail> {
     for (line, text) in known {
         same(said_of(alloc, line)?.as_str(), *text)?;
     }

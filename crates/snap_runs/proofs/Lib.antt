@@ -8,3 +8,5 @@ pub mod Counted
 pub mod Telling
 pub mod Drawings
 pub mod TestCases
+mod StoreTextFacts
+mod StoreRunFacts

@@ -10,3 +10,5 @@ pub mod Markups
 pub mod WitnessDrawing
 pub mod TestCases
 pub mod Answers
+pub mod StoreTexts
+pub mod StoreAnswers

@@ -4,6 +4,7 @@
 
 mod answers;
 mod ask;
+mod asked;
 mod cut;
 mod draw;
 mod draw_witness;
@@ -16,11 +17,15 @@ mod recording;
 mod rounds;
 mod shrink;
 mod stats;
+mod store_run;
+mod store_text;
 mod table;
 mod test_case;
 
 pub use ask::{answer_to, run};
+pub use asked::Asked;
 pub use object::object_name;
 pub use question::{Named, Question};
 pub use recording::{record_run, record_run_stamped};
 pub use rounds::{Rounds, Written, record_rounds};
+pub use store_run::run_cut;

@@ -31,16 +31,19 @@ pub gives_more : (command : Text) (rows : List Row) (Gives More : (Job → Type 
 gives_more command rows Gives More GivesNone MoreNone more none finds = record {
   check = λ asked is asks. more _ (finds.check asked is asks);
   follow = λ limit windows is asks. more _ (finds.follow limit windows is asks);
+  cut = λ limit quiet is asks. more _ (finds.cut limit quiet is asks);
   shrink = λ limit shrunk is asks. more _ (finds.shrink limit shrunk is asks);
   drawn_map = λ is asks. none (finds.drawn_map is asks);
-  explain = λ limit drawn whole faults is asks. more _ (finds.explain limit drawn whole faults is asks);
+  explain = λ limit cut drawn whole faults is asks. more _ (finds.explain limit cut drawn whole faults is asks);
   drawn_faults = λ is asks. none (finds.drawn_faults is asks);
+  one_writer = λ is asks. none (finds.one_writer is asks);
   draw = λ limit form part is asks. more _ (finds.draw limit form part is asks);
   stats = λ limit json is asks. more _ (finds.stats limit json is asks);
   repeated = λ is asks. none (finds.repeated is asks);
   recording = λ events workers rounds seed flags is asks. more _ (finds.recording events workers rounds seed flags is asks);
   unfollowed = λ is asks. none (finds.unfollowed is asks);
   unheeded = λ is asks. none (finds.unheeded is asks);
+  uncut = λ is asks. none (finds.uncut is asks);
   overfull = λ is asks. none (finds.overfull is asks);
 }
 

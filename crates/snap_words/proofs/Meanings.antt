@@ -73,6 +73,7 @@ pub record Said : Type 0 where
   pub format : Option Text
   pub summary : Option Text
   pub follow : Option Text
+  pub cut : Option Text
   pub window : Option Text
   pub idle : Option Text
   pub late : Option Text
@@ -95,6 +96,7 @@ said_in rows = record {
   format = first_of (codes "format") rows;
   summary = one_of (codes "summary") rows;
   follow = one_of (codes "follow") rows;
+  cut = one_of (codes "cut") rows;
   window = one_of (codes "window") rows;
   idle = one_of (codes "idle") rows;
   late = one_of (codes "late") rows;
@@ -119,6 +121,7 @@ saying asked pieces workers writers color unheeded = record {
   format = Some (format_text asked.options.format);
   summary = Some (flag_text asked.options.summary);
   follow = Some (flag_text false);
+  cut = Some (flag_text false);
   window = None;
   idle = None;
   late = None;
@@ -159,6 +162,7 @@ asks_check rows asked files unheeded fit said files_are = record {
   one_form = fit.one_form;
   null_ends = fit.null_ends;
   input_once = subst (λ (names : List Text). inputs_in names + inputs_at asked.list ≤ 1) (sym files_are) fit.input_once;
+  cut_is = ap (λ s. s.cut) said;
   follow_is = ap (λ s. s.follow) said;
   no_windows = ap (λ s. s.windows) said;
   pieces_are = subst (λ text. SaysOr 8 text asked.pieces) (sym (ap (λ s. s.pieces) said)) fit.pieces_are;
@@ -219,6 +223,7 @@ following limit windows writers window idle late said = record said {
   format = Some (format_text Plain);
   summary = Some (flag_text false);
   follow = Some (flag_text true);
+  cut = Some (flag_text false);
   window = window;
   idle = idle;
   late = late;
@@ -244,6 +249,7 @@ follow_of words limit windows files writers_are views_fit window_fits idle_fits 
       idle_fits = idle_fits;
       late_fits = late_fits;
       one_file = subst (λ (names : List Text). length names ≤ 1) (sym files_are) one_file;
+      cut_is = ap (λ s. s.cut) said;
       follow_is = ap (λ s. s.follow) said;
       all_heeded = ap (λ s. s.unheeded) said;
       quiet_is = ap (λ s. s.quiet) said;

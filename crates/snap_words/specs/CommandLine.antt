@@ -49,6 +49,10 @@ summary_rule = record (new_rule (codes "summary")) { long = Some (codes "summary
 abbrev pub follow_rule : Rule
 follow_rule = record (new_rule (codes "follow")) { long = Some (codes "follow"); action = Some SetTrue }
 
+-- --cut
+abbrev pub cut_rule : Rule
+cut_rule = record (new_rule (codes "cut")) { long = Some (codes "cut"); action = Some SetTrue }
+
 -- --window N
 abbrev pub window_rule : Rule
 window_rule = record (new_rule (codes "window")) { long = Some (codes "window"); value_names = 1; parser = Some (Signed (pos 1) (pos event_cap)) }
@@ -90,12 +94,12 @@ abbrev pub folder_rule : Rule
 folder_rule = record (new_rule (codes "folder")) { long = Some (codes "recursive"); short = Some 114; value_names = 1 }
 
 -- check [--pieces P] [--workers W] [--files-from LIST [--null]] [--recursive FOLDER] [--quiet] [--views N] [--events N]
--- [--writers WRITERS] [--format FORMAT] [--summary] [--follow] [--window N] [--idle SECONDS] [--late N] [--no-progress]
+-- [--writers WRITERS] [--format FORMAT] [--summary] [--follow] [--window N] [--idle SECONDS] [--late N] [--cut] [--no-progress]
 -- [--color WHEN] [FILE ..]
 abbrev pub check_app : App
 check_app = with_rules (new_app (codes "check"))
     (pieces_rule ∷ workers_rule ∷ list_rule ∷ null_rule ∷ folder_rule ∷ quiet_rule ∷ views_rule ∷ events_rule ∷ writers_rule ∷ format_rule
-    ∷ summary_rule ∷ follow_rule ∷ window_rule ∷ idle_rule ∷ late_rule ∷ no_progress_rule ∷ color_rule ∷ files_rule ∷ [])
+    ∷ summary_rule ∷ follow_rule ∷ window_rule ∷ idle_rule ∷ late_rule ∷ cut_rule ∷ no_progress_rule ∷ color_rule ∷ files_rule ∷ [])
 
 -- --draw
 abbrev pub draw_rule : Rule
@@ -117,9 +121,9 @@ all_rule = record (new_rule (codes "all")) { long = Some (codes "all"); action =
 abbrev pub faults_rule : Rule
 faults_rule = record (new_rule (codes "faults")) { long = Some (codes "faults"); value_names = 1; parser = Some (Signed (pos 1) (pos FAULT_LIMIT)); defaults = codes "1" ∷ [] }
 
--- explain [--draw] [--all] [--faults N] [--events N] [--writers WRITERS] [FILE]
+-- explain [--cut] [--draw] [--all] [--faults N] [--events N] [--writers WRITERS] [FILE]
 abbrev pub explain_app : App
-explain_app = with_rules (new_app (codes "explain")) (draw_rule ∷ all_rule ∷ faults_rule ∷ events_rule ∷ writers_rule ∷ file_rule ∷ [])
+explain_app = with_rules (new_app (codes "explain")) (cut_rule ∷ draw_rule ∷ all_rule ∷ faults_rule ∷ events_rule ∷ writers_rule ∷ file_rule ∷ [])
 
 -- --svg
 abbrev pub svg_rule : Rule

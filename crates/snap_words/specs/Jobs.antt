@@ -8,6 +8,7 @@ use Rattle.snap_core.specs.Events.{event_cap}
 use Rattle.snap_core.specs.Limits.{IsLimit, event_limit}
 use Rattle.snap_core.specs.UsualLimits.{usual_limit}
 use Rattle.snap_core.specs.declared.limit.Limit.{Limit}
+use Rattle.snap_core.specs.declared.writers.Writers.TheVariants.{Many}
 use Rattle.snap_record.specs.Plans.{AreRounds, AreRoundsWithin, AreWorkers, worker_limit}
 use Rattle.snap_threads.specs.Cuttings.{IsPieces, IsWorkers}
 use Rattle.snap_words.specs.declared.drawing.Form.{Form}
@@ -15,7 +16,7 @@ use Rattle.snap_words.specs.declared.drawing.Part.{Part}
 use Rattle.snap_words.specs.Parts.{HasRoom}
 use Rattle.snap_words.specs.Limits.{AsksEvents, AsksLimit}
 use Rattle.snap_words.specs.declared.job.Job.{Job}
-use Rattle.snap_words.specs.declared.job.Job.TheVariants.{Check, Follow, Shrink, Explain, Draw, Stats, Record}
+use Rattle.snap_words.specs.declared.job.Job.TheVariants.{Check, Follow, Cut, Shrink, Explain, Draw, Stats, Record}
 use Rattle.snap_words.specs.declared.color.Color.{Color}
 use Rattle.snap_words.specs.declared.color.Color.TheVariants.{Auto, Always, Never}
 use Rattle.snap_words.specs.declared.format.Format.{Format}
@@ -44,13 +45,16 @@ IsWindow events least = IsLimit least × (least ≤ events)
 abbrev pub AreFaults : ℕ → Type 0
 AreFaults faults = (1 ≤ faults) × (faults ≤ FAULT_LIMIT)
 
--- the numbers of a job are in their ranges; it asks for one form of answer, and not for a report with stamps
+-- The numbers of a job are in their ranges. It asks for one form of answer, and not for a report with stamps. Where updates are cut,
+-- each component may have many writers.
 abbrev pub IsInRange : Job → Type 0
 IsInRange (Check cutting limit options input) =
     IsPieces cutting.pieces × IsWorkers cutting.workers × IsLimit limit.events × AreViews limit.events options.views × IsOneForm options
 IsInRange (Follow limit windows file) = IsLimit limit.events × AreViews limit.events windows.views × IsWindow limit.events windows.least
+IsInRange (Cut quiet limit file) = IsLimit limit.events × (limit.writers ≡ Many)
 IsInRange (Shrink shrunk limit file) = IsLimit limit.events
-IsInRange (Explain drawn whole faults limit file) = IsLimit limit.events × AreFaults faults × (drawn ≡ true → faults ≡ 1)
+IsInRange (Explain cut drawn whole faults limit file) =
+    IsLimit limit.events × AreFaults faults × (drawn ≡ true → faults ≡ 1) × (cut ≡ true → limit.writers ≡ Many)
 IsInRange (Draw form part limit file) = IsLimit limit.events × HasRoom form part.calls
 IsInRange (Stats json limit files) = IsLimit limit.events
 IsInRange (Record workers rounds judge scan stamped seed) = AreWorkers workers × AreRounds rounds × (judge ≡ true → stamped ≡ false)
@@ -103,8 +107,9 @@ IsCheck asked files (Check cutting limit options input) =
     (cutting.pieces ≡ asked.pieces) × (cutting.workers ≡ asked.workers) × (limit ≡ asked.limit) × (options ≡ asked.options)
     × (texts_of input.files.items ≡ files) × (text_of input.list ≡ asked.list) × (input.null ≡ asked.null) × (text_of input.folder ≡ asked.folder)
 IsCheck asked files (Follow limit windows file) = ⊥
+IsCheck asked files (Cut quiet limit file) = ⊥
 IsCheck asked files (Shrink shrunk limit file) = ⊥
-IsCheck asked files (Explain drawn whole faults limit file) = ⊥
+IsCheck asked files (Explain cut drawn whole faults limit file) = ⊥
 IsCheck asked files (Draw form part limit file) = ⊥
 IsCheck asked files (Stats json limit names) = ⊥
 IsCheck asked files (Record w rounds judge scan stamped seed) = ⊥
@@ -113,8 +118,9 @@ IsCheck asked files (Record w rounds judge scan stamped seed) = ⊥
 abbrev pub IsFollow : Limit → Windows → List Text → Job → Type 0
 IsFollow limit windows files (Check cutting given options input) = ⊥
 IsFollow limit windows files (Follow given asked file) = (given ≡ limit) × (asked ≡ windows) × (text_of file ≡ first_name files)
+IsFollow limit windows files (Cut quiet given file) = ⊥
 IsFollow limit windows files (Shrink shrunk given file) = ⊥
-IsFollow limit windows files (Explain drawn whole faults given file) = ⊥
+IsFollow limit windows files (Explain cut drawn whole faults given file) = ⊥
 IsFollow limit windows files (Draw form part given file) = ⊥
 IsFollow limit windows files (Stats json given names) = ⊥
 IsFollow limit windows files (Record w rounds judge scan stamped seed) = ⊥
@@ -123,28 +129,33 @@ IsFollow limit windows files (Record w rounds judge scan stamped seed) = ⊥
 abbrev pub IsShrink : Limit → Shrunk → List Text → Job → Type 0
 IsShrink limit shrunk files (Check cutting given options input) = ⊥
 IsShrink limit shrunk files (Follow given windows file) = ⊥
+IsShrink limit shrunk files (Cut quiet given file) = ⊥
 IsShrink limit shrunk files (Shrink asked given file) = (asked ≡ shrunk) × (given ≡ limit) × (text_of file ≡ first_name files)
-IsShrink limit shrunk files (Explain drawn whole faults given file) = ⊥
+IsShrink limit shrunk files (Explain cut drawn whole faults given file) = ⊥
 IsShrink limit shrunk files (Draw form part given file) = ⊥
 IsShrink limit shrunk files (Stats json given names) = ⊥
 IsShrink limit shrunk files (Record w rounds judge scan stamped seed) = ⊥
 
--- the job explains it, with a picture or without, with all entries of the views of a fault or without, and with this many faults
-abbrev pub IsExplain : Limit → Bool → Bool → ℕ → List Text → Job → Type 0
-IsExplain limit drawn whole faults files (Check cutting given options input) = ⊥
-IsExplain limit drawn whole faults files (Follow given windows file) = ⊥
-IsExplain limit drawn whole faults files (Shrink asked given file) = ⊥
-IsExplain limit drawn whole faults files (Explain asked all told given file) = (asked ≡ drawn) × (all ≡ whole) × (told ≡ faults) × (given ≡ limit) × (text_of file ≡ first_name files)
-IsExplain limit drawn whole faults files (Draw form part given file) = ⊥
-IsExplain limit drawn whole faults files (Stats json given names) = ⊥
-IsExplain limit drawn whole faults files (Record w rounds judge scan stamped seed) = ⊥
+-- The job explains it, with its updates cut first or not, and with a picture or without. It does so with all entries of the views of
+-- a fault or without, and with this many faults.
+abbrev pub IsExplain : Limit → Bool → Bool → Bool → ℕ → List Text → Job → Type 0
+IsExplain limit cut drawn whole faults files (Check cutting given options input) = ⊥
+IsExplain limit cut drawn whole faults files (Follow given windows file) = ⊥
+IsExplain limit cut drawn whole faults files (Cut quiet given file) = ⊥
+IsExplain limit cut drawn whole faults files (Shrink asked given file) = ⊥
+IsExplain limit cut drawn whole faults files (Explain cuts asked all told given file) =
+    (cuts ≡ cut) × (asked ≡ drawn) × (all ≡ whole) × (told ≡ faults) × (given ≡ limit) × (text_of file ≡ first_name files)
+IsExplain limit cut drawn whole faults files (Draw form part given file) = ⊥
+IsExplain limit cut drawn whole faults files (Stats json given names) = ⊥
+IsExplain limit cut drawn whole faults files (Record w rounds judge scan stamped seed) = ⊥
 
 -- the job draws a part of it in a form
 abbrev pub IsDraw : Limit → Form → Part → List Text → Job → Type 0
 IsDraw limit form part files (Check cutting given options input) = ⊥
 IsDraw limit form part files (Follow given windows file) = ⊥
+IsDraw limit form part files (Cut quiet given file) = ⊥
 IsDraw limit form part files (Shrink shrunk given file) = ⊥
-IsDraw limit form part files (Explain drawn whole faults given file) = ⊥
+IsDraw limit form part files (Explain cut drawn whole faults given file) = ⊥
 IsDraw limit form part files (Draw asked cut given file) = (asked ≡ form) × (cut ≡ part) × (given ≡ limit) × (text_of file ≡ first_name files)
 IsDraw limit form part files (Stats json given names) = ⊥
 IsDraw limit form part files (Record w rounds judge scan stamped seed) = ⊥
@@ -153,8 +164,9 @@ IsDraw limit form part files (Record w rounds judge scan stamped seed) = ⊥
 abbrev pub IsStats : Limit → Bool → List Text → Job → Type 0
 IsStats limit json files (Check cutting given options input) = ⊥
 IsStats limit json files (Follow given windows file) = ⊥
+IsStats limit json files (Cut quiet given file) = ⊥
 IsStats limit json files (Shrink shrunk given file) = ⊥
-IsStats limit json files (Explain drawn whole faults given file) = ⊥
+IsStats limit json files (Explain cut drawn whole faults given file) = ⊥
 IsStats limit json files (Draw form part given file) = ⊥
 IsStats limit json files (Stats asked given names) = (asked ≡ json) × (given ≡ limit) × (texts_of names.items ≡ files)
 IsStats limit json files (Record w rounds judge scan stamped seed) = ⊥
@@ -172,8 +184,9 @@ no_flags = record { judge = false; scan = false; stamped = false }
 abbrev pub IsRecord : ℕ → ℕ → ℕ → Flags → Job → Type 0
 IsRecord workers rounds seed flags (Check cutting limit options input) = ⊥
 IsRecord workers rounds seed flags (Follow limit windows file) = ⊥
+IsRecord workers rounds seed flags (Cut quiet limit file) = ⊥
 IsRecord workers rounds seed flags (Shrink shrunk limit file) = ⊥
-IsRecord workers rounds seed flags (Explain drawn whole faults limit file) = ⊥
+IsRecord workers rounds seed flags (Explain cut drawn whole faults limit file) = ⊥
 IsRecord workers rounds seed flags (Draw form part limit file) = ⊥
 IsRecord workers rounds seed flags (Stats json limit names) = ⊥
 IsRecord workers rounds seed flags (Record w r judge scan stamped s) =
@@ -251,7 +264,7 @@ pub record LacksFollow (rows : List Row) : Type 0 where
   pub no_follow : one_of (codes "follow") rows ≡ Some (flag_text false)
   pub windows_named : names_windows rows ≡ true
 
--- Whether an option is given that has no use with --follow: --pieces, --workers, --writers, --color, --files-from or --recursive.
+-- Whether an option is given that has no use with --follow: --pieces, --workers, --color, --files-from or --recursive.
 abbrev pub names_unheeded : List Row → Bool
 names_unheeded rows =
     is_some (first_of (codes "pieces") rows) || is_some (first_of (codes "workers") rows)
@@ -264,7 +277,7 @@ pub record FollowsUnheeding (rows : List Row) : Type 0 where
 
 -- The options of `check` have these numbers, which are in their ranges. The number of pieces of a long text is left to the program
 -- exactly if --pieces is not given. Each flag is given or not, and the format and the colours have their words. One form of answer
--- is asked for, and none by windows. Names end with a zero byte only in a list, and standard input is named at most once.
+-- is asked for, and none by windows or of a cut. Names end with a zero byte only in a list, and standard input is named at most once.
 pub record AsksCheck (rows : List Row) (asked : Checking) : Type 0 where
   pub pieces_fit : IsPieces asked.pieces
   pub workers_fit : IsWorkers asked.workers
@@ -273,6 +286,7 @@ pub record AsksCheck (rows : List Row) (asked : Checking) : Type 0 where
   pub one_form : IsOneForm asked.options
   pub null_ends : asked.null ≡ true → IsSome asked.list
   pub input_once : inputs_in (files_of rows) + inputs_at asked.list ≤ 1
+  pub cut_is : one_of (codes "cut") rows ≡ Some (flag_text false)
   pub follow_is : one_of (codes "follow") rows ≡ Some (flag_text false)
   pub no_windows : names_windows rows ≡ false
   pub pieces_are : SaysOr 8 (one_of (codes "pieces") rows) asked.pieces
@@ -297,6 +311,7 @@ pub record AsksFollow (limit : Limit) (rows : List Row) (windows : Windows) : Ty
   pub idle_fits : windows.idle ≤ NUMBER_LIMIT
   pub late_fits : windows.late ≤ event_cap
   pub one_file : length (files_of rows) ≤ 1
+  pub cut_is : one_of (codes "cut") rows ≡ Some (flag_text false)
   pub follow_is : one_of (codes "follow") rows ≡ Some (flag_text true)
   pub all_heeded : names_unheeded rows ≡ false
   pub quiet_is : one_of (codes "quiet") rows ≡ Some (flag_text false)

@@ -6,6 +6,7 @@ pub mod Explaining
 pub mod Inputs
 pub mod Limits
 pub mod Jobs
+pub mod Cutting
 pub mod Lines
 pub mod Tables
 pub mod inside

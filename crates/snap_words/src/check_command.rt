@@ -5,7 +5,7 @@ ghost use Rattle.clap.specs.declared.builder.command.Command.TheViews.{out-Comma
 ghost use Rattle.snap_words.specs.CommandLine.{check_app};
 
 use crate::command::command_of;
-use crate::word::{EVENTS, FILES, NUMBER_LIMIT, Takes, WRITERS, Word};
+use crate::word::{CUT, EVENTS, FILES, NUMBER_LIMIT, Takes, WRITERS, Word};
 use clap::Command;
 use snap_core::EVENT_CAP;
 use snap_threads::{PIECE_LIMIT, WORKER_LIMIT};
@@ -72,6 +72,11 @@ folder. Each window ends at a moment at which no call is open, and the next one 
 left. Each is answered by a line, and the sums come at the end. With --idle N that is when nothing has
 come for N seconds. Records with stamps may come up to 1,000 records late, or N with --late N. Not
 with --quiet, --format json or junit, or --summary, nor with --pieces, --workers or --color.
+
+With --cut one history is judged whose updates a store numbered, such as by its revisions: of each component
+a greater number is a later version. Updates without an end that no view shows are left out, and the others
+are numbered 1, 2 and so on. The time of each is cut to what the order of the versions allows. Then the
+history is judged as with --writers many. Only that, --quiet, --events and --no-progress go with it.
 
 On a terminal a line on standard error shows how far it is, where there are more than 100 files or a
 second has passed. --no-progress leaves it out. The verdicts have colours there, unless --color never
@@ -208,6 +213,7 @@ const WORDS: &[Word<'static>] = &[
         },
         help: "With --follow, let N records with stamps wait, so that a record may come so many records late: 1000 where it is not given",
     },
+    CUT,
     Word {
         id: "no-progress",
         long: Some("no-progress"),

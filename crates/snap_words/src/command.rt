@@ -47,6 +47,7 @@ Examples:
     snapjudge check --quiet --views 1 run.csv         the verdicts alone, of at least one view
     snapjudge check --summary runs/*.csv              how many there are of each verdict, and the first
     snapjudge check --follow --idle 60 grows.csv      judge one that still grows, window by window
+    snapjudge check --cut store.csv                   judge one whose updates a store numbered as versions
     snapjudge shrink run.csv > witness.csv            cut it down to the calls of its first fault
     snapjudge explain run.csv                         say of its faults what happened, call by call
     snapjudge draw run.csv > run.html                 draw it as a page for a browser

@@ -2,8 +2,9 @@
 ghost use Rattle.std.specs.Prelude.{◌≡◌, ℕ, Bool, List, Some, codes, IfSome, IsNone, IsSomeAnd, true, false};
 ghost use Rattle.clap.specs.Words.{Row, Text, found_of, rows_of};
 ghost use Rattle.snap_core.specs.declared.limit.Limit.{Limit};
+ghost use Rattle.snap_words.specs.Cutting.{AsksCut, CutsUnheeding, IsCut};
 ghost use Rattle.snap_words.specs.Drawing.{AsksDrawWithin};
-ghost use Rattle.snap_words.specs.Explaining.{AsksExplanationWithin, DrawsFaults};
+ghost use Rattle.snap_words.specs.Explaining.{AsksExplanationWithin, CutsOneWriter, DrawsFaults};
 ghost use Rattle.snap_words.specs.Inputs.{IsInputOf};
 ghost use Rattle.snap_words.specs.Shrinking.{AsksShrinkWithin, DrawsMap};
 ghost use Rattle.snap_words.specs.inside.Found.{FindsJob};
@@ -11,11 +12,14 @@ ghost use Rattle.snap_words.specs.Jobs.{AsksCheck, AsksFollow, AsksRecordWithin,
 ghost use Rattle.snap_words.specs.declared.job.Windows.{Windows};
 
 use crate::color::color_in;
+use crate::cut_job::cut_in;
 use crate::drawing::{Form, Part, form_in, part_in};
 use crate::format::{format_in, is_plain, json_in};
 use crate::input::{Input, inputs_among};
 use crate::job::{Job, Options, Windows};
-use crate::option_values::{events_in, flag_in, is_given, limit_in, number_in, number_or};
+use crate::option_values::{
+    events_in, flag_in, is_given, limit_in, limit_with, number_in, number_or,
+};
 use crate::ranges::{
     are_faults, are_rounds, are_views, is_one_form, is_window, rounds_for, window_for,
 };
@@ -147,10 +151,14 @@ fn judged_in(matches: &ArgMatches<'_>, input: Input) -> Option<Job>
     ensures job { IfSome result IsInRange }
     ensures check { (asked : Checking) → AsksCheck (rows_of (found_of matches.now)) asked → IsSomeAnd result (IsCheck asked (files_of (rows_of (found_of matches.now)))) }
     ensures follow { (limit : Limit) (windows : Windows) → AsksFollow limit (rows_of (found_of matches.now)) windows → IsSomeAnd result (IsFollow limit windows (files_of (rows_of (found_of matches.now)))) }
+    ensures cut { (limit : Limit) (quiet : Bool) → AsksCut limit quiet (rows_of (found_of matches.now)) → IsSomeAnd result (IsCut limit quiet (files_of (rows_of (found_of matches.now)))) }
     ensures unfollowed { LacksFollow (rows_of (found_of matches.now)) → IsNone result }
     ensures unheeded { FollowsUnheeding (rows_of (found_of matches.now)) → IsNone result }
+    ensures uncut { CutsUnheeding (rows_of (found_of matches.now)) → IsNone result }
 {
-    if flag_in(matches, "follow") {
+    if flag_in(matches, "cut") {
+        cut_in(matches, input)
+    } else if flag_in(matches, "follow") {
         follow_in(matches, input)
     } else {
         check_in(matches, input)
@@ -220,17 +228,20 @@ fn shrink_in(matches: &ArgMatches<'_>, file: Option<Vec<u8>>) -> Option<Job>
 // The explanation that the options of `explain` ask for.
 fn explain_in(matches: &ArgMatches<'_>, file: Option<Vec<u8>>) -> Option<Job>
     ensures job { IfSome result IsInRange }
-    ensures asked { (limit : Limit) (drawn whole : Bool) (faults : ℕ) (files : List Text) → text_of file ≡ first_name files → AsksExplanationWithin limit drawn whole faults (rows_of (found_of matches.now)) → IsSomeAnd result (IsExplain limit drawn whole faults files) }
+    ensures asked { (limit : Limit) (cut drawn whole : Bool) (faults : ℕ) (files : List Text) → text_of file ≡ first_name files → AsksExplanationWithin limit cut drawn whole faults (rows_of (found_of matches.now)) → IsSomeAnd result (IsExplain limit cut drawn whole faults files) }
     ensures several { DrawsFaults (rows_of (found_of matches.now)) → IsNone result }
+    ensures one_writer { CutsOneWriter (rows_of (found_of matches.now)) → IsNone result }
 {
+    let cut = flag_in(matches, "cut");
     let drawn = flag_in(matches, "draw");
     let whole = flag_in(matches, "all");
     let faults = number_in(matches, "faults")?;
-    let limit = limit_in(matches)?;
+    let limit = limit_with(matches, cut)?;
     if !are_faults(faults, drawn) {
         return None;
     }
     Some(Job::Explain {
+        cut,
         drawn,
         whole,
         faults,

@@ -5,7 +5,7 @@ ghost use Rattle.clap.specs.declared.builder.command.Command.TheViews.{out-Comma
 ghost use Rattle.snap_words.specs.CommandLine.{explain_app};
 
 use crate::command::command_of;
-use crate::word::{EVENTS, FILE, Takes, WRITERS, Word};
+use crate::word::{CUT, EVENTS, FILE, Takes, WRITERS, Word};
 use clap::Command;
 use snap_options::FAULT_LIMIT;
 use std::alloc::{AllocError, Global};
@@ -45,6 +45,8 @@ each of the first N views that have one. The kinds come one after the other.
 Of a view with more than 16 entries it lists those of the fault's components, and counts the
 others. With --all it lists all.
 
+With --cut it explains a history whose updates a store numbered, as `snapjudge check --cut` judges it.
+
 With --draw it adds a picture of the calls concerned, and of calls that overlap them. The
 picture is lines of characters, as `snapjudge draw --text` writes them.
 
@@ -57,6 +59,7 @@ Exit status:
     5  the words of the command line were not taken";
 
 const WORDS: &[Word<'static>] = &[
+    CUT,
     Word {
         id: "draw",
         long: Some("draw"),

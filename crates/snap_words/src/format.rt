@@ -1,6 +1,7 @@
 //! The formats of an answer, and the word for one.
-ghost use Rattle.std.specs.Prelude.{◌≡◌, Bool, Some, codes, true};
+ghost use Rattle.std.specs.Prelude.{◌≡◌, Bool, Some, codes, false, true};
 ghost use Rattle.clap.specs.Words.{first_of, found_of, rows_of};
+ghost use Rattle.snap_words.specs.Cutting.{AsksOther};
 ghost use Rattle.snap_words.specs.Jobs.{format_text, object_format};
 ghost use Rattle.snap_words.specs.declared.format.Format.{Format};
 ghost use Rattle.snap_words.specs.declared.format.Format.TheVariants.{Plain};
@@ -50,10 +51,13 @@ pub(crate) fn json_in(matches: &ArgMatches<'_>) -> Option<bool>
 
 /// Whether reports are asked for, and no other format.
 pub(crate) fn is_plain(matches: &ArgMatches<'_>) -> bool
-    ensures { first_of (codes "format") (rows_of (found_of matches.now)) ≡ Some (format_text Plain) → result ≡ true }
+    ensures plain { first_of (codes "format") (rows_of (found_of matches.now)) ≡ Some (format_text Plain) → result ≡ true }
+    ensures other { AsksOther (rows_of (found_of matches.now)) → result ≡ false }
 {
     match format_in(matches) {
-        Some(format) => format == Format::Plain,
+        Some(Format::Plain) => true,
+        Some(Format::Json) => false,
+        Some(Format::Junit) => false,
         None => false,
     }
 }

@@ -2,8 +2,9 @@
 ghost use Rattle.std.specs.Prelude.{◌≡◌, ℕ, Bool, List, [], codes, IfOk, IsErr, MatchResult, map, string_bytes};
 ghost use Rattle.clap.specs.Words.{Text};
 ghost use Rattle.snap_core.specs.declared.limit.Limit.{Limit};
+ghost use Rattle.snap_words.specs.Cutting.{AsksCut, CutsUnheeding, IsCut};
 ghost use Rattle.snap_words.specs.Drawing.{AsksDrawWithin};
-ghost use Rattle.snap_words.specs.Explaining.{AsksExplanationWithin, DrawsFaults};
+ghost use Rattle.snap_words.specs.Explaining.{AsksExplanationWithin, CutsOneWriter, DrawsFaults};
 ghost use Rattle.snap_words.specs.Jobs.{AsksCheck, AsksFollow, AsksRecordWithin, AsksStatsWithin, AsksTooManyRounds, Checking, Flags, FollowsUnheeding, IsCheck, IsDraw, IsExplain, IsFollow, IsInRange, IsRecord, IsShrink, IsStats, LacksFollow, NamesInputTwice};
 ghost use Rattle.snap_words.specs.Lines.{Means};
 ghost use Rattle.snap_words.specs.Shrinking.{AsksShrinkWithin, DrawsMap};
@@ -169,6 +170,11 @@ fn whole_job(job: Job, others: &[Vec<u8>]) -> Result<Job, AllocError>
             windows,
             file: whole_name(file, others)?,
         },
+        Job::Cut { quiet, limit, file } => Job::Cut {
+            quiet,
+            limit,
+            file: whole_name(file, others)?,
+        },
         Job::Shrink {
             shrunk,
             limit,
@@ -179,12 +185,14 @@ fn whole_job(job: Job, others: &[Vec<u8>]) -> Result<Job, AllocError>
             file: whole_name(file, others)?,
         },
         Job::Explain {
+            cut,
             drawn,
             whole,
             faults,
             limit,
             file,
         } => Job::Explain {
+            cut,
             drawn,
             whole,
             faults,
@@ -259,16 +267,21 @@ pub fn wanted_by(alloc: Global, words: Words) -> Result<Job, JobFault>
     ensures follow { (limit : Limit) (windows : Windows) (files : List Text) → words.others.items ≡ []
         → Means (map string_bytes words.texts.items) (codes "check") (λ rows. AsksFollow limit rows windows) files
         → MatchResult result (IsFollow limit windows files) (λ fault. fault ≡ JobFault.Memory) }
+    ensures cut { (limit : Limit) (quiet : Bool) (files : List Text) → words.others.items ≡ []
+        → Means (map string_bytes words.texts.items) (codes "check") (AsksCut limit quiet) files
+        → MatchResult result (IsCut limit quiet files) (λ fault. fault ≡ JobFault.Memory) }
     ensures unfollowed { (files : List Text) → Means (map string_bytes words.texts.items) (codes "check") LacksFollow files → IsErr result }
     ensures unheeded { (files : List Text) → Means (map string_bytes words.texts.items) (codes "check") FollowsUnheeding files → IsErr result }
+    ensures uncut { (files : List Text) → Means (map string_bytes words.texts.items) (codes "check") CutsUnheeding files → IsErr result }
     ensures shrink { (limit : Limit) (shrunk : Shrunk) (files : List Text) → words.others.items ≡ []
         → Means (map string_bytes words.texts.items) (codes "shrink") (AsksShrinkWithin limit shrunk) files
         → MatchResult result (IsShrink limit shrunk files) (λ fault. fault ≡ JobFault.Memory) }
     ensures drawn_map { (files : List Text) → Means (map string_bytes words.texts.items) (codes "shrink") DrawsMap files → IsErr result }
-    ensures explain { (limit : Limit) (drawn whole : Bool) (faults : ℕ) (files : List Text) → words.others.items ≡ []
-        → Means (map string_bytes words.texts.items) (codes "explain") (AsksExplanationWithin limit drawn whole faults) files
-        → MatchResult result (IsExplain limit drawn whole faults files) (λ fault. fault ≡ JobFault.Memory) }
+    ensures explain { (limit : Limit) (cut drawn whole : Bool) (faults : ℕ) (files : List Text) → words.others.items ≡ []
+        → Means (map string_bytes words.texts.items) (codes "explain") (AsksExplanationWithin limit cut drawn whole faults) files
+        → MatchResult result (IsExplain limit cut drawn whole faults files) (λ fault. fault ≡ JobFault.Memory) }
     ensures drawn_faults { (files : List Text) → Means (map string_bytes words.texts.items) (codes "explain") DrawsFaults files → IsErr result }
+    ensures one_writer { (files : List Text) → Means (map string_bytes words.texts.items) (codes "explain") CutsOneWriter files → IsErr result }
     ensures draw { (limit : Limit) (form : Form) (part : Part) (files : List Text) → words.others.items ≡ []
         → Means (map string_bytes words.texts.items) (codes "draw") (λ rows. AsksDrawWithin limit rows form part) files
         → MatchResult result (IsDraw limit form part files) (λ fault. fault ≡ JobFault.Memory) }

@@ -2,8 +2,9 @@
 ghost use Rattle.std.specs.Prelude.{◌≡◌, ℕ, Bool, List, Some, codes, IfOk, IsErr, MatchResult, map, string_bytes};
 ghost use Rattle.clap.specs.Words.{Row, Text, kind_of, subcommand_rows_of};
 ghost use Rattle.snap_core.specs.declared.limit.Limit.{Limit};
+ghost use Rattle.snap_words.specs.Cutting.{AsksCut, CutsUnheeding, IsCut};
 ghost use Rattle.snap_words.specs.Drawing.{AsksDrawWithin};
-ghost use Rattle.snap_words.specs.Explaining.{AsksExplanationWithin, DrawsFaults};
+ghost use Rattle.snap_words.specs.Explaining.{AsksExplanationWithin, CutsOneWriter, DrawsFaults};
 ghost use Rattle.snap_words.specs.Jobs.{AsksCheck, AsksFollow, AsksRecordWithin, AsksStatsWithin, AsksTooManyRounds, Checking, Flags, FollowsUnheeding, IsCheck, IsDraw, IsExplain, IsFollow, IsInRange, IsRecord, IsShrink, IsStats, LacksFollow, NamesInputTwice};
 ghost use Rattle.snap_words.specs.inside.Found.{FindsGiven};
 ghost use Rattle.snap_words.specs.Lines.{Means};
@@ -72,6 +73,13 @@ pub enum Job {
         windows: Windows,
         file: Option<Vec<u8>>,
     },
+    /// Judge the history of a store that tells a version of each update, once its updates are cut to the times that these allow. Each
+    /// component may have many writers.
+    Cut {
+        quiet: bool,
+        limit: Limit,
+        file: Option<Vec<u8>>,
+    },
     /// Cut a history down to a witness, and write that, its picture, or which calls it keeps.
     Shrink {
         shrunk: Shrunk,
@@ -79,8 +87,10 @@ pub enum Job {
         file: Option<Vec<u8>>,
     },
     /// Explain a history, with a picture or without, and with all entries of the views of a fault or without. The first `faults`
-    /// views with a fault of a kind are told: 1 to 1,000, and 1 with a picture.
+    /// views with a fault of a kind are told: 1 to 1,000, and 1 with a picture. `cut` says whether the updates are cut first, as by
+    /// `Cut`.
     Explain {
+        cut: bool,
         drawn: bool,
         whole: bool,
         faults: u32,
@@ -186,16 +196,21 @@ pub fn job_of(alloc: Global, words: Vec<String>) -> Result<Job, JobFault>
     ensures follow { (limit : Limit) (windows : Windows) (files : List Text)
         → Means (map string_bytes words.items) (codes "check") (λ rows. AsksFollow limit rows windows) files
         → MatchResult result (IsFollow limit windows files) (λ fault. fault ≡ JobFault.Memory) }
+    ensures cut { (limit : Limit) (quiet : Bool) (files : List Text)
+        → Means (map string_bytes words.items) (codes "check") (AsksCut limit quiet) files
+        → MatchResult result (IsCut limit quiet files) (λ fault. fault ≡ JobFault.Memory) }
     ensures unfollowed { (files : List Text) → Means (map string_bytes words.items) (codes "check") LacksFollow files → IsErr result }
     ensures unheeded { (files : List Text) → Means (map string_bytes words.items) (codes "check") FollowsUnheeding files → IsErr result }
+    ensures uncut { (files : List Text) → Means (map string_bytes words.items) (codes "check") CutsUnheeding files → IsErr result }
     ensures shrink { (limit : Limit) (shrunk : Shrunk) (files : List Text)
         → Means (map string_bytes words.items) (codes "shrink") (AsksShrinkWithin limit shrunk) files
         → MatchResult result (IsShrink limit shrunk files) (λ fault. fault ≡ JobFault.Memory) }
     ensures drawn_map { (files : List Text) → Means (map string_bytes words.items) (codes "shrink") DrawsMap files → IsErr result }
-    ensures explain { (limit : Limit) (drawn whole : Bool) (faults : ℕ) (files : List Text)
-        → Means (map string_bytes words.items) (codes "explain") (AsksExplanationWithin limit drawn whole faults) files
-        → MatchResult result (IsExplain limit drawn whole faults files) (λ fault. fault ≡ JobFault.Memory) }
+    ensures explain { (limit : Limit) (cut drawn whole : Bool) (faults : ℕ) (files : List Text)
+        → Means (map string_bytes words.items) (codes "explain") (AsksExplanationWithin limit cut drawn whole faults) files
+        → MatchResult result (IsExplain limit cut drawn whole faults files) (λ fault. fault ≡ JobFault.Memory) }
     ensures drawn_faults { (files : List Text) → Means (map string_bytes words.items) (codes "explain") DrawsFaults files → IsErr result }
+    ensures one_writer { (files : List Text) → Means (map string_bytes words.items) (codes "explain") CutsOneWriter files → IsErr result }
     ensures draw { (limit : Limit) (form : Form) (part : Part) (files : List Text)
         → Means (map string_bytes words.items) (codes "draw") (λ rows. AsksDrawWithin limit rows form part) files
         → MatchResult result (IsDraw limit form part files) (λ fault. fault ≡ JobFault.Memory) }

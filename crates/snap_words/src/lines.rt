@@ -3,10 +3,11 @@ ghost use Rattle.std.specs.Prelude.{◌∷◌, [], None, Some, codes, false, tru
 ghost use Rattle.clap.specs.Words.{Text};
 ghost use Rattle.snap_core.specs.Limits.{IsLimit};
 ghost use Rattle.snap_core.specs.UsualLimits.{greatest_limit, usual_limit};
+ghost use Rattle.snap_words.specs.Cutting.{AsksCut, CutsUnheeding};
 ghost use Rattle.snap_words.specs.Drawing.{AsksDraw, AsksDrawWithin, usual_part};
-ghost use Rattle.snap_words.specs.Explaining.{AsksExplanation, AsksExplanationWithin, DrawsFaults};
+ghost use Rattle.snap_words.specs.Explaining.{AsksExplanation, AsksExplanationWithin, CutsOneWriter, DrawsFaults};
 ghost use Rattle.snap_words.specs.Jobs.{AsksCheck, AsksFollow, AsksRecord, AsksRecordWithin, AsksStats, AsksStatsWithin, AsksTooManyRounds, FollowsUnheeding, LacksFollow, NamesInputTwice, no_flags, no_options, plain_check};
-ghost use Rattle.snap_words.specs.Limits.{limit_of, usual_many};
+ghost use Rattle.snap_words.specs.Limits.{limit_of, many_of, usual_many};
 ghost use Rattle.snap_words.specs.Lines.{Means};
 ghost use Rattle.snap_words.specs.Shrinking.{AsksShrink, AsksShrinkWithin, DrawsMap};
 ghost use Rattle.snap_words.specs.declared.color.Color.TheVariants.{Never};
@@ -41,6 +42,19 @@ pub fn check_lines()
     ensures files { (name : Text) → Means (name ∷ codes "check" ∷ codes "a.csv" ∷ codes "-" ∷ []) (codes "check") (λ rows. AsksCheck rows plain_check) (codes "a.csv" ∷ codes "-" ∷ []) }
 {}
 
+/// What lines of `check --cut` and of `explain --cut` ask for: many writers of each component, said or not. Nothing that has no use
+/// with a cut, and no word of one writer, asks for a job beside it.
+pub fn cut_lines()
+    ensures alone { (name : Text) → Means (name ∷ codes "check" ∷ codes "--cut" ∷ []) (codes "check") (AsksCut usual_many false) [] }
+    ensures writers { (name : Text) → Means (name ∷ codes "check" ∷ codes "--cut" ∷ codes "--writers" ∷ codes "many" ∷ []) (codes "check") (AsksCut usual_many false) [] }
+    ensures events { (name : Text) (fits : IsLimit 500) → Means (name ∷ codes "check" ∷ codes "--cut" ∷ codes "--events" ∷ codes "500" ∷ []) (codes "check") (AsksCut (many_of 500 fits) false) [] }
+    ensures quiet { (name : Text) → Means (name ∷ codes "check" ∷ codes "--cut" ∷ codes "--quiet" ∷ codes "a.csv" ∷ []) (codes "check") (AsksCut usual_many true) (codes "a.csv" ∷ []) }
+    ensures workers { (name : Text) → Means (name ∷ codes "check" ∷ codes "--cut" ∷ codes "--workers" ∷ codes "4" ∷ []) (codes "check") CutsUnheeding [] }
+    ensures one_writer { (name : Text) → Means (name ∷ codes "check" ∷ codes "--cut" ∷ codes "--writers" ∷ codes "one" ∷ []) (codes "check") CutsUnheeding [] }
+    ensures explain { (name : Text) → Means (name ∷ codes "explain" ∷ codes "--cut" ∷ []) (codes "explain") (AsksExplanationWithin usual_many true false false 1) [] }
+    ensures explain_one { (name : Text) → Means (name ∷ codes "explain" ∷ codes "--cut" ∷ codes "--writers" ∷ codes "one" ∷ []) (codes "explain") CutsOneWriter [] }
+{}
+
 /// Names of files come from a list and from below a folder too.
 pub fn source_lines()
     ensures { (name : Text) → Means (name ∷ codes "check" ∷ codes "--files-from" ∷ codes "-" ∷ codes "-0" ∷ codes "-r" ∷ codes "runs" ∷ []) (codes "check") (λ rows. AsksCheck rows (record plain_check { list = Some (codes "-"); null = true; folder = Some (codes "runs") })) [] }
@@ -64,10 +78,10 @@ pub fn picture_lines()
     ensures draw_dark { (name : Text) → Means (name ∷ codes "draw" ∷ codes "--svg" ∷ codes "--dark" ∷ []) (codes "draw") (λ rows. AsksDraw rows (Svg (Some Dark))) [] }
     ensures draw_text { (name : Text) → Means (name ∷ codes "draw" ∷ codes "--text" ∷ []) (codes "draw") (λ rows. AsksDraw rows Lines) [] }
     ensures shrink_events { (name : Text) → Means (name ∷ codes "shrink" ∷ codes "--events" ∷ codes "1048576" ∷ []) (codes "shrink") (AsksShrinkWithin greatest_limit Witness) [] }
-    ensures explain_events { (name : Text) → Means (name ∷ codes "explain" ∷ codes "--events" ∷ codes "1048576" ∷ []) (codes "explain") (AsksExplanationWithin greatest_limit false false 1) [] }
+    ensures explain_events { (name : Text) → Means (name ∷ codes "explain" ∷ codes "--events" ∷ codes "1048576" ∷ []) (codes "explain") (AsksExplanationWithin greatest_limit false false false 1) [] }
     ensures draw_events { (name : Text) → Means (name ∷ codes "draw" ∷ codes "--events" ∷ codes "1048576" ∷ []) (codes "draw") (λ rows. AsksDrawWithin greatest_limit rows (Page None) usual_part) [] }
     ensures shrink_writers { (name : Text) → Means (name ∷ codes "shrink" ∷ codes "--writers" ∷ codes "many" ∷ []) (codes "shrink") (AsksShrinkWithin usual_many Witness) [] }
-    ensures explain_writers { (name : Text) → Means (name ∷ codes "explain" ∷ codes "--writers" ∷ codes "many" ∷ []) (codes "explain") (AsksExplanationWithin usual_many false false 1) [] }
+    ensures explain_writers { (name : Text) → Means (name ∷ codes "explain" ∷ codes "--writers" ∷ codes "many" ∷ []) (codes "explain") (AsksExplanationWithin usual_many false false false 1) [] }
     ensures draw_writers { (name : Text) → Means (name ∷ codes "draw" ∷ codes "--writers" ∷ codes "many" ∷ []) (codes "draw") (λ rows. AsksDrawWithin usual_many rows (Page None) usual_part) [] }
     ensures draw_from { (name : Text) → Means (name ∷ codes "draw" ∷ codes "--calls" ∷ codes "500" ∷ codes "--from" ∷ codes "5" ∷ []) (codes "draw") (λ rows. AsksDrawWithin usual_limit rows (Page None) (record { calls = Some 500; place = From 5 })) [] }
     ensures draw_around { (name : Text) → Means (name ∷ codes "draw" ∷ codes "--around" ∷ codes "5" ∷ []) (codes "draw") (λ rows. AsksDrawWithin usual_limit rows (Page None) (record usual_part { place = Around 5 })) [] }

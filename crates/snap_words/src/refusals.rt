@@ -4,11 +4,12 @@ ghost use Rattle.clap.specs.Words.{found_of, rows_of};
 ghost use Rattle.snap_words.specs.Jobs.{names_unheeded, names_windows};
 
 use crate::color::color_in;
+use crate::cut_refusals::{ONE_WRITER, cut_refusal};
 use crate::drawing::{form_in, has_room, most_calls};
 use crate::format::{Format, format_in, json_in};
 use crate::option_values::{flag_in, is_given, number_in};
 use crate::ranges::{ROUND_EVENTS, are_rounds, are_views};
-use crate::writers::writers_in;
+use crate::writers::{leaves_many, writers_in};
 use clap::ArgMatches;
 use std::alloc::{AllocError, Global};
 
@@ -126,6 +127,15 @@ fn stats_refusal(matches: &ArgMatches<'_>) -> &'static str {
     }
 }
 
+// Why an explanation is not asked for.
+fn explain_refusal(matches: &ArgMatches<'_>) -> &'static str {
+    if flag_in(matches, "cut") && !leaves_many(matches) {
+        ONE_WRITER
+    } else {
+        "error: the argument '--draw' cannot be used with '--faults <N>'\n"
+    }
+}
+
 // Why a picture is not asked for.
 fn draw_refusal(matches: &ArgMatches<'_>) -> &'static str {
     if is_given(matches, "from") && is_given(matches, "around") {
@@ -148,6 +158,8 @@ fn judged_refusal(matches: &ArgMatches<'_>) -> &'static str {
     };
     if color_in(matches).is_none() {
         "error: invalid value for '--color <WHEN>'\n  [possible values: auto, always, never]\n\nFor more information, try '--help'.\n"
+    } else if flag_in(matches, "cut") {
+        cut_refusal(matches, format)
     } else if flag_in(matches, "follow") {
         follow_refusal(matches, format)
     } else {
@@ -164,7 +176,7 @@ fn command_refusal(name: &str, matches: &ArgMatches<'_>) -> &'static str {
     match name {
         "check" => judged_refusal(matches),
         "shrink" => "error: the argument '--draw' cannot be used with '--map'\n",
-        "explain" => "error: the argument '--draw' cannot be used with '--faults <N>'\n",
+        "explain" => explain_refusal(matches),
         "draw" => draw_refusal(matches),
         "stats" => stats_refusal(matches),
         _ => "error: the argument '--judge' cannot be used with '--stamped'\n",
@@ -197,11 +209,15 @@ fn number_and_events(matches: &ArgMatches<'_>, id: &str) -> Option<(u32, u32)> {
     Some((number_in(matches, id)?, number_in(matches, "events")?))
 }
 
-// Says that a check asks for more completed views than a history can have, or for windows that only a longer one can have.
+// Says that a check asks for more completed views than a history can have, or for windows that only a longer one can have. Both have
+// no use with --cut.
 fn check_range_refusal(
     alloc: Global,
     matches: &ArgMatches<'_>,
 ) -> Result<Option<String>, AllocError> {
+    if flag_in(matches, "cut") {
+        return Ok(None);
+    }
     let Some((views, events)) = number_and_events(matches, "views") else {
         return Ok(None);
     };

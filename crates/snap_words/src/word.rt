@@ -80,6 +80,15 @@ pub(crate) const WRITERS: Word<'static> = Word {
     help: "How many processes may write a component: one or many. Without it one; of many the updates may overlap, and end in the order of their numbers",
 };
 
+/// Whether the updates of a history are cut first, of a command that judges one.
+pub(crate) const CUT: Word<'static> = Word {
+    id: "cut",
+    long: Some("cut"),
+    short: None,
+    takes: Takes::Nothing,
+    help: "Cut the updates of a store with versions to the times that these allow, first",
+};
+
 /// The format of a command that writes lines or objects.
 pub(crate) const FORMAT: Word<'static> = Word {
     id: "format",

@@ -1,7 +1,8 @@
 //! How many processes may write a component, and the word for it.
-ghost use Rattle.std.specs.Prelude.{◌≡◌, Some, codes};
+ghost use Rattle.std.specs.Prelude.{◌≡◌, Some, codes, false, true};
 ghost use Rattle.clap.specs.Words.{first_of, found_of, rows_of};
-ghost use Rattle.snap_words.specs.Limits.{SaysWriters, writers_text};
+ghost use Rattle.snap_core.specs.declared.writers.Writers.TheVariants.{One};
+ghost use Rattle.snap_words.specs.Limits.{LeavesMany, SaysWriters, writers_text};
 
 use clap::ArgMatches;
 use snap_core::Writers;
@@ -24,5 +25,16 @@ pub(crate) fn writers_in(matches: &ArgMatches<'_>) -> Option<Writers>
     match matches.get_str("writers") {
         Some(word) => writers_of(word),
         None => Some(Writers::One),
+    }
+}
+
+/// Whether the options leave many writers to a component: they say so, or say nothing of writers.
+pub(crate) fn leaves_many(matches: &ArgMatches<'_>) -> bool
+    ensures left { LeavesMany (first_of (codes "writers") (rows_of (found_of matches.now))) → result ≡ true }
+    ensures one { first_of (codes "writers") (rows_of (found_of matches.now)) ≡ Some (writers_text One) → result ≡ false }
+{
+    match matches.get_str("writers") {
+        Some(word) => word == "many",
+        None => true,
     }
 }

@@ -4,7 +4,10 @@ ghost use Rattle.snap_words.specs.Jobs.{IsInRange};
 
 use crate::check::check;
 use crate::counts::count;
-use snap_commands::{Failure, answer, draw, explanation, follow, record, witness};
+use snap_commands::{
+    Failure, answer, cut, draw, explanation, explanation_of_cut, follow, record, report_of_cut,
+    witness,
+};
 use snap_runs::{Rounds, Written};
 use snap_words::Job;
 use std::sync::Wait;
@@ -45,6 +48,7 @@ pub(crate) fn done<Rt: Threads + Wait + Sync>(
             windows,
             file,
         } => follow(rt, host, &file, limit, windows),
+        Job::Cut { quiet, limit, file } => cut(rt, host, &file, report_of_cut(quiet), limit),
         Job::Shrink {
             shrunk,
             limit,
@@ -54,6 +58,21 @@ pub(crate) fn done<Rt: Threads + Wait + Sync>(
             drawn,
             whole,
             faults,
+            cut: true,
+            limit,
+            file,
+        } => cut(
+            rt,
+            host,
+            &file,
+            explanation_of_cut(drawn, whole, faults),
+            limit,
+        ),
+        Job::Explain {
+            drawn,
+            whole,
+            faults,
+            cut: false,
             limit,
             file,
         } => answer(rt, host, &file, explanation(drawn, whole, faults), limit),

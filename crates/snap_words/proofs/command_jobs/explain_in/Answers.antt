@@ -7,3 +7,6 @@ returns-clause-several c = λ asks.
     let is : c.in_ok-faults.faults ≡ asks.faults = cc in
     let refused = c.are_faults.ensures.several (omega (arith, asks.several, is)) (c.flag_in-drawn.ensures.given true asks.drawn) in
     sym c.if-not-are_faults.false ∙ refused
+
+pub returns-clause-one_writer : goal.returns-clause-one_writer
+returns-clause-one_writer c = λ asks. c.in_ok-limit.ensures.one (c.flag_in-cut.ensures.given true asks.cut_is) asks.one_said

@@ -14,4 +14,4 @@ pub returns-then-flag_in-3-clause-asked : goal.returns-then-flag_in-3-clause-ask
 returns-then-flag_in-3-clause-asked c = λ limit windows asks. sym (c.if-flag_in-3.ensures.given false asks.null_is)
 
 pub returns-then-not-is_plain-clause-asked : goal.returns-then-not-is_plain-clause-asked
-returns-then-not-is_plain-clause-asked c = λ limit windows asks. c.if-not-is_plain.ensures asks.format_is
+returns-then-not-is_plain-clause-asked c = λ limit windows asks. c.if-not-is_plain.ensures.plain asks.format_is

@@ -1,14 +1,19 @@
-use Rattle.std.proofs.Common.{◌≡◌, rules}
+use Rattle.std.proofs.Common.{◌≡◌, ◌∙◌, sym}
 use Rattle.std.proofs.lemmas.Option.{same_Some}
-use Rattle.snap_words.specs.declared.format.Format.TheVariants.{Plain}
+use Rattle.snap_words.specs.declared.format.Format.TheVariants.{Plain, Json, Junit}
 use Rattle.snap_words.proofs.format.is_plain.Goals as goal
 
-pub returns-in-Some : goal.returns-in-Some
-returns-in-Some c = λ is.
-    let same : c.in-Some.format ≡ Plain = same_Some _ _ (c.in-Some.ensures.given Plain is) in
-    search rules
+pub returns-in-Some-Json-clause-plain : goal.returns-in-Some-Json-clause-plain
+returns-in-Some-Json-clause-plain c = λ is.
+    let lost : Json ≡ Plain = sym c.in-Some-Json.field-0-is ∙ same_Some _ _ (c.in-Some-Json.ensures.given Plain is) in
+    absurd cc
 
-pub returns-in-None : goal.returns-in-None
-returns-in-None c = λ is.
-    let lost = c.in-None.ensures.given Plain is in
+pub returns-in-Some-Junit-clause-plain : goal.returns-in-Some-Junit-clause-plain
+returns-in-Some-Junit-clause-plain c = λ is.
+    let lost : Junit ≡ Plain = sym c.in-Some-Junit.field-0-is ∙ same_Some _ _ (c.in-Some-Junit.ensures.given Plain is) in
+    absurd cc
+
+pub returns-in-None-clause-plain : goal.returns-in-None-clause-plain
+returns-in-None-clause-plain c = λ is.
+    let lost = c.format_in.ensures.given Plain is in
     absurd cc

@@ -1,4 +1,5 @@
 use Rattle.std.proofs.Common.{◌∙◌, subst, sym}
+use Rattle.snap_words.specs.Cutting.{IsCut}
 use Rattle.snap_words.specs.Jobs.{IsCheck, IsDraw, IsExplain, IsFollow, IsRecord, IsShrink, IsStats}
 use Rattle.snap_words.proofs.given.wanted_by.Goals as goal
 
@@ -17,6 +18,13 @@ returns-in-Ok-clause-follow c = λ limit windows files whole means.
 pub returns-clause-follow : goal.returns-clause-follow
 returns-clause-follow c = λ limit windows files whole means. c.readable.ensures (c.in-Err.ensures.follow limit windows files means)
 
+pub returns-in-Ok-clause-cut : goal.returns-in-Ok-clause-cut
+returns-in-Ok-clause-cut c = λ limit quiet files whole means.
+    subst (IsCut limit quiet files) (sym (c.in_ok-whole_job-in-Ok.ensures.same (c.deref-in-Ok.ensures.value ∙ whole))) (c.in-Ok.ensures.cut limit quiet files means)
+
+pub returns-clause-cut : goal.returns-clause-cut
+returns-clause-cut c = λ limit quiet files whole means. c.readable.ensures (c.in-Err.ensures.cut limit quiet files means)
+
 pub returns-in-Ok-clause-shrink : goal.returns-in-Ok-clause-shrink
 returns-in-Ok-clause-shrink c = λ limit shrunk files whole means.
     subst (IsShrink limit shrunk files) (sym (c.in_ok-whole_job-in-Ok.ensures.same (c.deref-in-Ok.ensures.value ∙ whole))) (c.in-Ok.ensures.shrink limit shrunk files means)
@@ -25,11 +33,11 @@ pub returns-clause-shrink : goal.returns-clause-shrink
 returns-clause-shrink c = λ limit shrunk files whole means. c.readable.ensures (c.in-Err.ensures.shrink limit shrunk files means)
 
 pub returns-in-Ok-clause-explain : goal.returns-in-Ok-clause-explain
-returns-in-Ok-clause-explain c = λ limit drawn all faults files whole means.
-    subst (IsExplain limit drawn all faults files) (sym (c.in_ok-whole_job-in-Ok.ensures.same (c.deref-in-Ok.ensures.value ∙ whole))) (c.in-Ok.ensures.explain limit drawn all faults files means)
+returns-in-Ok-clause-explain c = λ limit cut drawn all faults files whole means.
+    subst (IsExplain limit cut drawn all faults files) (sym (c.in_ok-whole_job-in-Ok.ensures.same (c.deref-in-Ok.ensures.value ∙ whole))) (c.in-Ok.ensures.explain limit cut drawn all faults files means)
 
 pub returns-clause-explain : goal.returns-clause-explain
-returns-clause-explain c = λ limit drawn all faults files whole means. c.readable.ensures (c.in-Err.ensures.explain limit drawn all faults files means)
+returns-clause-explain c = λ limit cut drawn all faults files whole means. c.readable.ensures (c.in-Err.ensures.explain limit cut drawn all faults files means)
 
 pub returns-in-Ok-clause-draw : goal.returns-in-Ok-clause-draw
 returns-in-Ok-clause-draw c = λ limit form part files whole means.

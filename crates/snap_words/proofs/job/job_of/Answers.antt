@@ -2,6 +2,7 @@ use Rattle.std.proofs.Common.{◌≡◌, ◌∙◌, List, Option, ap, ap₂, cod
 use Rattle.std.specs.Prelude.{string_bytes}
 use Rattle.clap.specs.Words.{Row, Text, is_simple, subcommand_of, subcommand_rows_of, takes}
 use Rattle.snap_words.specs.CommandLine.{program_app}
+use Rattle.snap_words.specs.Cutting.{IsCut}
 use Rattle.snap_words.specs.Jobs.{IsCheck, IsDraw, IsExplain, IsFollow, IsShrink, IsStats}
 use Rattle.snap_words.specs.declared.job.JobFault.TheVariants.{Memory}
 use Rattle.snap_words.proofs.Finding.{on_files}
@@ -33,6 +34,13 @@ pub returns-clause-follow : goal.returns-clause-follow
 returns-clause-follow c = λ limit windows files means.
     on_files means.rows files (IsFollow limit windows) c.asked_by.result means.files_are ((c.asked_by.ensures.asked (codes "check") means.rows (found c _ means.rows_are)).follow limit windows refl means.asks)
 
+pub returns-in-Err-clause-cut : goal.returns-in-Err-clause-cut
+returns-in-Err-clause-cut c = λ limit quiet files means. memory c means.taken
+
+pub returns-clause-cut : goal.returns-clause-cut
+returns-clause-cut c = λ limit quiet files means.
+    on_files means.rows files (IsCut limit quiet) c.asked_by.result means.files_are ((c.asked_by.ensures.asked (codes "check") means.rows (found c _ means.rows_are)).cut limit quiet refl means.asks)
+
 pub returns-in-Err-clause-shrink : goal.returns-in-Err-clause-shrink
 returns-in-Err-clause-shrink c = λ limit shrunk files means. memory c means.taken
 
@@ -41,11 +49,11 @@ returns-clause-shrink c = λ limit shrunk files means.
     on_files means.rows files (IsShrink limit shrunk) c.asked_by.result means.files_are ((c.asked_by.ensures.asked (codes "shrink") means.rows (found c _ means.rows_are)).shrink limit shrunk refl means.asks)
 
 pub returns-in-Err-clause-explain : goal.returns-in-Err-clause-explain
-returns-in-Err-clause-explain c = λ limit drawn whole faults files means. memory c means.taken
+returns-in-Err-clause-explain c = λ limit cut drawn whole faults files means. memory c means.taken
 
 pub returns-clause-explain : goal.returns-clause-explain
-returns-clause-explain c = λ limit drawn whole faults files means.
-    on_files means.rows files (IsExplain limit drawn whole faults) c.asked_by.result means.files_are ((c.asked_by.ensures.asked (codes "explain") means.rows (found c _ means.rows_are)).explain limit drawn whole faults refl means.asks)
+returns-clause-explain c = λ limit cut drawn whole faults files means.
+    on_files means.rows files (IsExplain limit cut drawn whole faults) c.asked_by.result means.files_are ((c.asked_by.ensures.asked (codes "explain") means.rows (found c _ means.rows_are)).explain limit cut drawn whole faults refl means.asks)
 
 pub returns-in-Err-clause-draw : goal.returns-in-Err-clause-draw
 returns-in-Err-clause-draw c = λ limit form part files means. memory c means.taken
@@ -73,6 +81,9 @@ returns-clause-unfollowed c = λ files means. (c.asked_by.ensures.asked (codes "
 pub returns-clause-unheeded : goal.returns-clause-unheeded
 returns-clause-unheeded c = λ files means. (c.asked_by.ensures.asked (codes "check") means.rows (found c _ means.rows_are)).unheeded refl means.asks
 
+pub returns-clause-uncut : goal.returns-clause-uncut
+returns-clause-uncut c = λ files means. (c.asked_by.ensures.asked (codes "check") means.rows (found c _ means.rows_are)).uncut refl means.asks
+
 pub returns-clause-repeated : goal.returns-clause-repeated
 returns-clause-repeated c = λ files means. (c.asked_by.ensures.asked (codes "stats") means.rows (found c _ means.rows_are)).repeated refl means.asks
 
@@ -84,3 +95,6 @@ returns-clause-drawn_map c = λ files means. (c.asked_by.ensures.asked (codes "s
 
 pub returns-clause-drawn_faults : goal.returns-clause-drawn_faults
 returns-clause-drawn_faults c = λ files means. (c.asked_by.ensures.asked (codes "explain") means.rows (found c _ means.rows_are)).drawn_faults refl means.asks
+
+pub returns-clause-one_writer : goal.returns-clause-one_writer
+returns-clause-one_writer c = λ files means. (c.asked_by.ensures.asked (codes "explain") means.rows (found c _ means.rows_are)).one_writer refl means.asks

@@ -24,19 +24,19 @@ returns-clause-drawn_map c = λ name. means _ _ _ _ refl refl (record { drawn = 
 
 pub returns-clause-explain_alone : goal.returns-clause-explain_alone
 unfolding clap_on_literals
-returns-clause-explain_alone c = λ name. means _ _ _ _ refl refl (record { limit_is = asks_usual _ refl refl; faults_fit = (omega arith, omega arith); one_drawn = λ _. refl; drawn_is = refl; whole_is = refl; faults_are = ap Some (sym one_text) }) refl
+returns-clause-explain_alone c = λ name. means _ _ _ _ refl refl (record { limit_is = asks_usual _ refl refl; faults_fit = (omega arith, omega arith); one_drawn = λ _. refl; cut_is = refl; drawn_is = refl; whole_is = refl; faults_are = ap Some (sym one_text) }) refl
 
 pub returns-clause-explain_drawn : goal.returns-clause-explain_drawn
 unfolding clap_on_literals
-returns-clause-explain_drawn c = λ name. means _ _ _ _ refl refl (record { limit_is = asks_usual _ refl refl; faults_fit = (omega arith, omega arith); one_drawn = λ _. refl; drawn_is = refl; whole_is = refl; faults_are = ap Some (sym one_text) }) refl
+returns-clause-explain_drawn c = λ name. means _ _ _ _ refl refl (record { limit_is = asks_usual _ refl refl; faults_fit = (omega arith, omega arith); one_drawn = λ _. refl; cut_is = refl; drawn_is = refl; whole_is = refl; faults_are = ap Some (sym one_text) }) refl
 
 pub returns-clause-explain_all : goal.returns-clause-explain_all
 unfolding clap_on_literals
-returns-clause-explain_all c = λ name. means _ _ _ _ refl refl (record { limit_is = asks_usual _ refl refl; faults_fit = (omega arith, omega arith); one_drawn = λ _. refl; drawn_is = refl; whole_is = refl; faults_are = ap Some (sym one_text) }) refl
+returns-clause-explain_all c = λ name. means _ _ _ _ refl refl (record { limit_is = asks_usual _ refl refl; faults_fit = (omega arith, omega arith); one_drawn = λ _. refl; cut_is = refl; drawn_is = refl; whole_is = refl; faults_are = ap Some (sym one_text) }) refl
 
 pub returns-clause-explain_faults : goal.returns-clause-explain_faults
 unfolding clap_on_literals
-returns-clause-explain_faults c = λ name. means _ _ _ _ refl refl (record { limit_is = asks_usual _ refl refl; faults_fit = (omega arith, omega arith); one_drawn = λ d. absurd (false≢true d); drawn_is = refl; whole_is = refl; faults_are = ap Some (sym ten_text) }) refl
+returns-clause-explain_faults c = λ name. means _ _ _ _ refl refl (record { limit_is = asks_usual _ refl refl; faults_fit = (omega arith, omega arith); one_drawn = λ d. absurd (false≢true d); cut_is = refl; drawn_is = refl; whole_is = refl; faults_are = ap Some (sym ten_text) }) refl
 
 pub returns-clause-drawn_faults : goal.returns-clause-drawn_faults
 unfolding clap_on_literals
@@ -68,7 +68,7 @@ returns-clause-shrink_events c = λ name. means _ _ _ _ refl refl (record { pict
 
 pub returns-clause-explain_events : goal.returns-clause-explain_events
 unfolding clap_on_literals
-returns-clause-explain_events c = λ name. means _ _ _ _ refl refl (record { limit_is = asks_greatest _ refl refl; faults_fit = (omega arith, omega arith); one_drawn = λ _. refl; drawn_is = refl; whole_is = refl; faults_are = ap Some (sym one_text) }) refl
+returns-clause-explain_events c = λ name. means _ _ _ _ refl refl (record { limit_is = asks_greatest _ refl refl; faults_fit = (omega arith, omega arith); one_drawn = λ _. refl; cut_is = refl; drawn_is = refl; whole_is = refl; faults_are = ap Some (sym one_text) }) refl
 
 pub returns-clause-draw_events : goal.returns-clause-draw_events
 unfolding clap_on_literals
@@ -80,7 +80,7 @@ returns-clause-shrink_writers c = λ name. means _ _ _ _ refl refl (record { pic
 
 pub returns-clause-explain_writers : goal.returns-clause-explain_writers
 unfolding clap_on_literals
-returns-clause-explain_writers c = λ name. means _ _ _ _ refl refl (record { limit_is = asks_many _ refl refl; faults_fit = (omega arith, omega arith); one_drawn = λ _. refl; drawn_is = refl; whole_is = refl; faults_are = ap Some (sym one_text) }) refl
+returns-clause-explain_writers c = λ name. means _ _ _ _ refl refl (record { limit_is = asks_many _ refl refl; faults_fit = (omega arith, omega arith); one_drawn = λ _. refl; cut_is = refl; drawn_is = refl; whole_is = refl; faults_are = ap Some (sym one_text) }) refl
 
 pub returns-clause-draw_writers : goal.returns-clause-draw_writers
 unfolding clap_on_literals
