@@ -17,6 +17,8 @@ tells "stats old.csv --help" "snapjudge stats [OPTIONS] [FILE]..."
 tells "draw --svg --help" "snapjudge draw [OPTIONS] [FILE]"
 tells "draw --dark --help" "Draw with light ink on a dark ground"
 tells "explain --all --help" "List all entries of the views of a fault"
+tells "check --help" "Cut the updates of a store with versions"
+tells "explain --help" "Cut the updates of a store with versions"
 for file in old.csv none.csv; do
   expect "$file without a command" 5 "" ./second $file
   expect_said "the tip" "error: to judge a file, write: snapjudge check $file"
@@ -199,6 +201,51 @@ expect "a refused text, and shrink --map" 3 "refused record 1: header
 expect "a refused text, and explain --faults" 3 "$refused_empty" ./second explain --faults 3
 expect "a witness drawn and mapped" 5 "" ./second shrink --draw --map old.csv
 expect_said "the reason" "error: the argument '--draw' cannot be used with '--map'"
+# Version 9 ends before version 4, and version 12 has no end, but a view shows it.
+cat >store.csv <<END
+at,event,process,op,data
+1,begin,0,update,0:4:7
+2,begin,1,update,0:9:8
+3,end,1,update,
+4,end,0,update,
+5,begin,1,update,0:12:5
+6,begin,2,view,
+7,end,2,view,0:12:5
+END
+expect "a store whose versions are cut" 0 "events 7 calls 4 pending 1 views 1
+regular yes
+monotone yes
+atomic yes
+order 4
+1 p0 update 0:1:7
+2 p1 update 0:2:8
+3 p1 update 0:3:5
+4 p2 view 0:3:5
+" ./second check --cut store.csv
+expect "the verdicts of a store alone" 0 "regular yes
+monotone yes
+atomic yes
+" ./second check -q --cut store.csv
+expect "a store explained" 0 "atomic: in this order each view shows the latest updates before it
+  call 1 of process 0, records 2 and 5: update 0:1:7
+  call 2 of process 1, records 3 and 4: update 0:2:8
+  call 3 of process 1, record 6, pending: update 0:3:5
+  call 4 of process 2, records 7 and 8: view 0:3:5
+" ./second explain --cut store.csv
+expect "a store that is not cut" 3 "refused record 2: number
+" ./second check --writers many store.csv
+printf '8,begin,0,update,0:2:6\n9,end,0,update,\n' >>store.csv
+for command in check "check --quiet" explain "explain --draw"; do
+  expect "versions that contradict time, and $command" 2 "contradiction ended record 4 begun record 9
+" ./second $command --cut store.csv
+done
+expect "a text without stamps, and check --cut" 3 "refused record 1: header
+" ./second check --cut old.csv
+expect "two stores" 5 "" ./second check --cut store.csv old.csv
+expect_said "the reason" "error: --cut takes one history"
+expect "a store of one writer" 5 "" ./second explain --cut --writers one store.csv
+expect_said "the reason" "error: the argument '--cut' cannot be used with '--writers one'"
+rm -f store.csv
 expect "a picture of several faults" 5 "" ./second explain --draw --faults 2 old.csv
 expect_said "the reason" "error: the argument '--draw' cannot be used with '--faults <N>'"
 expect "no fault" 5 "" ./second explain --faults 0 old.csv

@@ -23,7 +23,7 @@ for shell in bash zsh fish; do
   has "$shell" "completions of $shell" || continue
   completes "snapjudge sh" shrink
   completes "snapjudge --v" --version
-  completes "snapjudge check --" "--color --events --files-from --follow --format --help --idle --late --no-progress --null --pieces --quiet --recursive --summary --views --window --workers --writers"
+  completes "snapjudge check --" "--color --cut --events --files-from --follow --format --help --idle --late --no-progress --null --pieces --quiet --recursive --summary --views --window --workers --writers"
   completes "snapjudge check --writers " "many one"
   completes "snapjudge check --format " "json junit plain"
   completes "snapjudge check --color " "always auto never"
@@ -34,7 +34,7 @@ for shell in bash zsh fish; do
   completes "snapjudge draw --" "--around --calls --dark --events --from --help --light --svg --text --writers"
   completes "snapjudge draw --svg --d" --dark
   completes "snapjudge shrink --" "--draw --events --help --map --writers"
-  completes "snapjudge explain --" "--all --draw --events --faults --help --writers"
+  completes "snapjudge explain --" "--all --cut --draw --events --faults --help --writers"
   completes "snapjudge explain --d" --draw
   completes "snapjudge stats --" "--events --format --help --writers"
   completes "snapjudge stats --format " "json plain"

@@ -9,14 +9,14 @@ for files in old.csv 'old.csv old.csv'; do
       exit \$(cat gone)"
   done
 done
-for command in "shrink old.csv" "shrink --draw old.csv" "shrink --map old.csv" "explain old.csv" "explain --draw old.csv" "explain --faults 3 old.csv" "draw old.csv" "draw --text old.csv" "stats old.csv" "stats --format json old.csv" "stats old.csv old.csv" "record --rounds 2" --version; do
+for command in "check --cut old.csv" "explain --cut old.csv" "shrink old.csv" "shrink --draw old.csv" "shrink --map old.csv" "explain old.csv" "explain --draw old.csv" "explain --faults 3 old.csv" "draw old.csv" "draw --text old.csv" "stats old.csv" "stats --format json old.csv" "stats old.csv old.csv" "record --rounds 2" --version; do
   expect "$command, and a full disk" 4 "" sh -c "./second $command >/dev/full"
   expect "$command, and no output" 4 "" sh -c "./second $command >&-"
   expect "$command, and a reader that has gone" 4 "" sh -c "{ sleep 0.3; ./second $command; echo \$? >gone; } | :
     exit \$(cat gone)"
   expect_said "nothing" ""
 done
-for command in check "check -" "shrink -" "shrink --draw -" "shrink --map -" "explain -" "explain --draw -" "explain --faults 3 -" "draw -" "draw --text -" "stats -" "stats --format json -"; do
+for command in check "check -" "check --cut -" "explain --cut -" "shrink -" "shrink --draw -" "shrink --map -" "explain -" "explain --draw -" "explain --faults 3 -" "draw -" "draw --text -" "stats -" "stats --format json -"; do
   expect "$command, and no input" 4 "" sh -c "./second $command <&-"
   expect_said "the reason" "snapjudge: read failed"
 done

@@ -27,6 +27,8 @@ if has python3 "the second judge"; then
 " python3 -B "$top/share/test-judge.py" "$top/snapjudge"
   expect "a search through all orders of histories with many writers" 0 "3000 passed, 0 failed
 " python3 -B "$top/share/test-writers.py" "$top/snapjudge"
+  expect "a search through all orders of stores with versions" 0 "3000 passed, 0 failed
+" python3 -B "$top/share/test-stores.py" "$top/snapjudge"
   expect "counts of hundreds of texts" 0 "1217 passed, 0 failed
 " python3 -B "$top/share/test-stats.py" "$top/snapjudge"
   sed -n 's/^\$ \(.*\) | \.\/snapjudge [a-z]*$/\1/p' "$top/docs/FORMAT.md" >texts

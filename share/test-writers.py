@@ -11,16 +11,16 @@ as soon as no call is open. A witness has one writer of each component, so it is
 or as many as are asked for.
 """
 import collections
-import itertools
 import os
 import random
 import subprocess
 import sys
 import tempfile
 
-HISTORIES, ASKED, FOLLOWED, BATCH, COMPONENTS, PROCESSES = 3000, 120, 3000, 3000, 2, 4
+from small_histories import COMPONENTS, HEADER, NEVER, PROCESSES, is_atomic, is_legal, is_monotone, is_regular, reports_of
+
+HISTORIES, ASKED, FOLLOWED, BATCH = 3000, 120, 3000, 3000
 SEED = 20261201
-NEVER = 1 << 30
 
 
 def history(rng):
@@ -65,71 +65,6 @@ def history(rng):
     return records, calls, out_of_order
 
 
-def explains(order, rises=True):
-    """Whether each view shows the last updates before it, and the numbers of each component rise, if they must."""
-    last = {}
-    for call in order:
-        if call["update"]:
-            component, number, value = call["update"]
-            if rises and number <= last.get(component, (0, 0))[0]:
-                return False
-            last[component] = (number, value)
-        elif call["shown"] != last:
-            return False
-    return True
-
-
-def keeps_precedence(order):
-    return not any(late["ended"] < early["begun"] for early, late in itertools.combinations(order, 2))
-
-
-def is_legal(order, calls):
-    """Whether an order of all completed calls and some pending updates keeps precedence and explains the views."""
-    return all(it in order for it in calls if it["ended"] < NEVER) and keeps_precedence(order) and explains(order)
-
-
-def is_atomic(calls, rises=True):
-    """Whether there is such an order: all are tried, call by call. The numbers of a component may fall in it, if they need not rise."""
-    pending = [it for it in calls if it["ended"] == NEVER and it["update"]]
-    done = [it for it in calls if it["ended"] < NEVER]
-
-    def goes_on(order, left):
-        if not explains(order, rises):
-            return False
-        return not left or any(
-            goes_on([*order, it], [other for other in left if other is not it])
-            for it in left
-            if not any(other["ended"] < it["begun"] for other in left)
-        )
-
-    return any(goes_on([], [*done, *some]) for size in range(len(pending) + 1) for some in itertools.combinations(pending, size))
-
-
-def is_regular(calls):
-    """Whether each view shows of each component neither an older update than the last that precedes it, nor one begun after it."""
-    updates = [it for it in calls if it["update"]]
-    for view in calls:
-        if view["shown"] is None:
-            continue
-        for component in range(COMPONENTS):
-            number, value = view["shown"].get(component, (0, 0))
-            if number and not any(it["update"] == (component, number, value) and it["begun"] < view["ended"] for it in updates):
-                return False
-            if any(it["update"][0] == component and it["update"][1] > number and it["ended"] < view["begun"] for it in updates):
-                return False
-    return True
-
-
-def is_monotone(calls):
-    views = [it for it in calls if it["shown"] is not None]
-    return not any(
-        early["ended"] < late["begun"] and early["shown"].get(component, (0, 0))[0] > late["shown"].get(component, (0, 0))[0]
-        for early in views
-        for late in views
-        for component in range(COMPONENTS)
-    )
-
-
 def fault(report, calls, out_of_order):
     """What is wrong with a report, or None."""
     if out_of_order:
@@ -164,24 +99,10 @@ def asked(program, room, name, status, updates):
 
 def followed(program, records, status):
     """What is wrong with the windows of a history that is followed, or None, and how many windows there are."""
-    text = "\n".join(["event,process,op,data", *records, ""])
+    text = "\n".join([HEADER, *records, ""])
     run = subprocess.run([program, "check", "--follow", "--writers", "many", "--window", "1", "-"], input=text, capture_output=True, text=True, check=False)
     windows = sum(line.startswith("window ") for line in run.stdout.splitlines())
     return None if run.returncode == status else f"followed with status {run.returncode}, and not {status}", windows
-
-
-def reports_of(program, room, histories):
-    """What the program says of each history, in lines."""
-    names = [f"{place}.csv" for place in range(len(histories))]
-    for name, (records, _, _) in zip(names, histories):
-        with open(os.path.join(room, name), "w", encoding="ascii") as out:
-            out.write("\n".join(["event,process,op,data", *records, ""]))
-    run = subprocess.run([program, "check", "--writers", "many", *names], cwd=room, capture_output=True, text=True, check=False)
-    reports = {name: [] for name in names}
-    for line in run.stdout.splitlines():
-        name, _, rest = line.partition(": ")
-        reports[name].append(rest)
-    return reports.items()
 
 
 def kinds_of(report, calls, out_of_order):
@@ -197,7 +118,8 @@ def main(program, count=HISTORIES, seed=SEED):
     with tempfile.TemporaryDirectory() as room:
         while judged < count:
             histories = [history(rng) for _ in range(min(BATCH, count - judged))]
-            for (name, report), (records, calls, out_of_order) in zip(reports_of(program, room, histories), histories):
+            reports = reports_of(program, room, [records for records, _, _ in histories])
+            for (name, report), (records, calls, out_of_order) in zip(reports, histories):
                 wrong = fault(report, calls, out_of_order)
                 if not wrong and judged < FOLLOWED:
                     status = 3 if out_of_order else 0 if is_atomic(calls) else 1 if is_regular(calls) else 2
